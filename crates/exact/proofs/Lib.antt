@@ -1,0 +1,4 @@
+pub mod Z
+pub mod Quotients
+pub mod Table
+pub mod Meaning

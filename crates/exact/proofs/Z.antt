@@ -1,0 +1,210 @@
+-- The kit of laws on ℤ, by the magnitude `natAbs`, a ℕ, which omega reads. Every crate cites it. Assumes nothing.
+use mathlib.Core.Path.{_≡_, refl, sym, ap, subst, _∙_}
+use mathlib.Core.Bool.{Bool, true, false, cond, _&&_}
+use Prim.Native.Nat.{ℕ, zero, suc, _+_, _*_, _-_, _/_, _^_, _≤_, _<_, zero-le}
+use native.Mathlib.Nat.{mul-le-mul, le-of-lt, div-le-self, zero-div}
+use native.Mathlib.Omega.{arith}
+use borrow.Author.Tests.{le-ltb, ltb-true, ltb-false, leb-true, eq-eqb, ne-eqb, eqb-true, eqb-false}
+use lib.IntN.{ℤ, pos, negsuc, negℤ, natAbs, subℕ, _+ℤ_, _-ℤ_, _*ℤ_, +ℤ-idl, *ℤ-zero, negℤ-negℤ, negℤ-+ℤ}
+use lib.Dec.{T, ltb, leb, eqb}
+use lib.Signed.{mag, ltZ, leZ, nonNeg, quotZ}
+use mir.Syntax.{Width, w32, w64}
+use mir.Val.{SFits, hbits, toZ, ofZ}
+use mir.Facts.{toZ-ofZ, sfits-widen}
+use Rattle.exact.specs.Sign.{isNeg, eqZ}
+
+-- what is read back from the bits of z, where z is v and v fits
+pub rd : {w : Width} {z v : ℤ} → z ≡ v → SFits w v → toZ w (ofZ w z) ≡ v
+rd {w} e f = ap (λ (y : ℤ). toZ w (ofZ w y)) e ∙ toZ-ofZ f
+
+pub fits-as : {w : Width} {z v : ℤ} → z ≡ v → SFits w v → SFits w z
+fits-as {w} e f = subst (SFits w) (sym e) f
+
+mag-abs : (z : ℤ) → mag z ≤ natAbs z
+mag-abs (pos n) = omega arith
+mag-abs (negsuc n) = omega arith
+
+-- a magnitude's bound is a fit
+pub abs-fits : {w : Width} (z : ℤ) → natAbs z < 2 ^ hbits w → SFits w z
+abs-fits z h = record { sfits = omega (arith, mag-abs z) }
+
+pub abs-neg : (z : ℤ) → natAbs (negℤ z) ≡ natAbs z
+abs-neg (pos zero) = refl
+abs-neg (pos (suc n)) = refl
+abs-neg (negsuc n) = refl
+
+-- the test x < 0
+pub neg-test : (z : ℤ) → ltZ z (pos 0) ≡ isNeg z
+neg-test (pos n) = le-ltb n 0 zero-le
+neg-test (negsuc n) = refl
+
+-- −z, as the code has it, 0 − z
+pub minus : (z : ℤ) → pos 0 -ℤ z ≡ negℤ z
+minus z = +ℤ-idl (negℤ z)
+
+pub never : {X : Type 0} → false ≡ true → X
+never e = absurd (subst T (sym e) tt)
+
+-- the same test, of a parameter
+pub neg-is : {w : Width} {z : ℤ} {b : Bool} → SFits w z → ltZ (toZ w (ofZ w z)) (pos 0) ≡ b → isNeg z ≡ b
+neg-is {w} {z} f e = sym (neg-test z) ∙ ap (λ (y : ℤ). ltZ y (pos 0)) (sym (toZ-ofZ f)) ∙ e
+
+pub nonNeg-neg : (z : ℤ) → isNeg z ≡ true → T (nonNeg (negℤ z))
+nonNeg-neg (pos n) e = never e
+nonNeg-neg (negsuc n) e = tt
+
+pub nonNeg-is : (z : ℤ) → isNeg z ≡ false → T (nonNeg z)
+nonNeg-is (pos n) e = tt
+nonNeg-is (negsuc n) e = never (sym e)
+
+-- ---- magnitudes of a difference, a sum and a product, in ℕ
+
+cond-ind : (c : Bool) (x y : ℤ) (P : ℤ → Type 0) → (c ≡ true → P x) → (c ≡ false → P y) → P (cond c x y)
+cond-ind true x y P f g = f refl
+cond-ind false x y P f g = g refl
+
+pub abs-subℕ : (a b : ℕ) → natAbs (subℕ a b) ≡ (a - b) + (b - a)
+abs-subℕ a b =
+    cond-ind (ltb a b) (negsuc (b - suc a)) (pos (a - b)) (λ z. natAbs z ≡ (a - b) + (b - a))
+    (λ t. omega (arith, ltb-true)) (λ t. omega (arith, ltb-false))
+
+-- |a − b| of two naturals
+pub abs-diff : (a b : ℕ) → natAbs (pos a -ℤ pos b) ≡ (a - b) + (b - a)
+abs-diff a zero = omega arith
+abs-diff a (suc b) = abs-subℕ a (suc b)
+
+pub abs-add-le : (x y : ℤ) → natAbs (x +ℤ y) ≤ natAbs x + natAbs y
+abs-add-le (pos a) (pos b) = omega arith
+abs-add-le (pos a) (negsuc b) = omega (arith, abs-subℕ a (suc b))
+abs-add-le (negsuc a) (pos b) = omega (arith, abs-subℕ b (suc a))
+abs-add-le (negsuc a) (negsuc b) = omega arith
+
+pub abs-sub-le : (x y : ℤ) → natAbs (x -ℤ y) ≤ natAbs x + natAbs y
+abs-sub-le x y = omega (arith, abs-add-le x (negℤ y), abs-neg y)
+
+pub abs-mul : (x y : ℤ) → natAbs (x *ℤ y) ≡ natAbs x * natAbs y
+abs-mul (pos a) (pos b) = refl
+abs-mul (pos a) (negsuc b) = abs-neg (pos (a * suc b))
+abs-mul (negsuc a) (pos b) = abs-neg (pos (suc a * b))
+abs-mul (negsuc a) (negsuc b) = refl
+
+-- a minus goes out of a product
+pub mul-neg : (a : ℕ) (z : ℤ) → pos a *ℤ negℤ z ≡ negℤ (pos a *ℤ z)
+mul-neg a (pos zero) = rw (*ℤ-zero (pos a))
+mul-neg a (pos (suc n)) = refl
+mul-neg a (negsuc n) = sym (negℤ-negℤ (pos (a * suc n)))
+
+-- |−x − (−y)| is |x − y|
+pub abs-neg-neg : (x y : ℤ) → natAbs (negℤ x -ℤ negℤ y) ≡ natAbs (x -ℤ y)
+abs-neg-neg x y = ap natAbs (sym (negℤ-+ℤ x (negℤ y))) ∙ abs-neg (x -ℤ y)
+
+-- numbers on the two sides of zero: their distance is the sum of the magnitudes
+pub between-signs : (x y : ℕ) → natAbs (negℤ (pos x) -ℤ pos y) ≡ x + y
+between-signs x y = ap natAbs (sym (negℤ-+ℤ (pos x) (pos y))) ∙ abs-neg (pos (x + y))
+
+pub between-signs′ : (x y : ℕ) → natAbs (pos x -ℤ negℤ (pos y)) ≡ x + y
+between-signs′ x y = ap (λ (z : ℤ). natAbs (pos x +ℤ z)) (negℤ-negℤ (pos y))
+
+-- a number that is not negative is its magnitude
+pub is-pos : (z : ℤ) → isNeg z ≡ false → z ≡ pos (natAbs z)
+is-pos (pos n) e = refl
+is-pos (negsuc n) e = never (sym e)
+
+pub abs-mul-le : (x y : ℤ) (a b : ℕ) → natAbs x ≤ a → natAbs y ≤ b → natAbs (x *ℤ y) ≤ a * b
+abs-mul-le x y a b h k = rw (abs-mul x y) (mul-le-mul h k)
+
+-- a number that is not above hi and not below −(lo + 1)
+pub between-abs : (z : ℤ) (hi lo : ℕ) → lo < hi → ltZ (pos hi) z ≡ false → ltZ z (negsuc lo) ≡ false → natAbs z ≤ hi
+between-abs (pos n) hi lo h a b = omega (arith, ltb-false)
+between-abs (negsuc n) hi lo h a b = omega (arith, ltb-false)
+
+-- ---- what tests tell
+
+pub both : (t u : Bool) → (t && u) ≡ true → (t ≡ true) × (u ≡ true)
+both true u e = (refl, e)
+both false u e = never e
+
+-- −(lo + 1) ≤ z ≤ hi
+pub between-is : (z : ℤ) (hi lo : ℕ) → lo < hi → (leZ (negsuc lo) z && leZ z (pos hi)) ≡ true → natAbs z ≤ hi
+between-is (pos n) hi lo h e = omega (arith, leb-true)
+between-is (negsuc n) hi lo h e = let p = both (leb n lo) true e in omega (arith, leb-true)
+
+-- lo ≤ z ≤ hi, of two naturals
+pub from-to : (z : ℤ) (lo hi : ℕ) → (leZ (pos lo) z && leZ z (pos hi)) ≡ true → (isNeg z ≡ false) × ((lo ≤ natAbs z) × (natAbs z ≤ hi))
+from-to (pos n) lo hi e = let p = both (leb lo n) (leb n hi) e in (refl, omega (arith, leb-true))
+from-to (negsuc n) lo hi e = never e
+
+sub-up : (a b : ℕ) → b < a → (isNeg (subℕ a b) ≡ false) × (0 < natAbs (subℕ a b))
+sub-up a b h = rw (le-ltb a b (le-of-lt h)) (refl, omega arith)
+
+-- a < b: the difference is above zero
+pub lt-diff : (a b : ℤ) → ltZ a b ≡ true → (isNeg (b -ℤ a) ≡ false) × (0 < natAbs (b -ℤ a))
+lt-diff (pos zero) (pos n) e = (refl, omega (arith, ltb-true))
+lt-diff (pos (suc m)) (pos n) e = sub-up n (suc m) (ltb-true (suc m) n e)
+lt-diff (pos m) (negsuc n) e = never e
+lt-diff (negsuc m) (pos n) e = (refl, omega arith)
+lt-diff (negsuc m) (negsuc n) e = sub-up (suc m) (suc n) (omega (arith, ltb-true))
+
+-- ---- an i32 as an i64
+
+pub widens : {z : ℤ} → SFits w32 z → SFits w64 (toZ w32 (ofZ w32 z))
+widens f = fits-as (toZ-ofZ f) (sfits-widen tt f)
+
+pub widened : {z : ℤ} → SFits w32 z → toZ w64 (ofZ w64 (toZ w32 (ofZ w32 z))) ≡ z
+widened f = rd (toZ-ofZ f) (sfits-widen tt f)
+
+-- what is read back of an element (`.given`) or of a call's result (`.ok`)
+pub back32 : (z : ℤ) → mag z < 2 ^ 31 → toZ w32 (ofZ w32 z) ≡ z
+back32 z h = toZ-ofZ {w = w32} (record { sfits = h })
+
+pub back64 : (z : ℤ) → mag z < 2 ^ 63 → toZ w64 (ofZ w64 z) ≡ z
+back64 z h = toZ-ofZ {w = w64} (record { sfits = h })
+
+-- ---- the quotient, cut towards zero
+
+pub abs-quot : (x y : ℤ) → natAbs (quotZ x y) ≡ natAbs x / natAbs y
+abs-quot (pos a) (pos b) = refl
+abs-quot (pos a) (negsuc b) = abs-neg (pos (a / suc b))
+abs-quot (negsuc a) (pos b) = abs-neg (pos (suc a / b))
+abs-quot (negsuc a) (negsuc b) = refl
+
+pub abs-quot-le : (x y : ℤ) → natAbs (quotZ x y) ≤ natAbs x
+abs-quot-le x y = rw (abs-quot x y) (div-le-self (natAbs x) (natAbs y))
+
+-- the bits of a divisor, which `/` and `%` ask not to be 0
+pub divisor : (w : Width) (z : ℤ) → isNeg z ≡ false → 0 < natAbs z → 0 < ofZ w z
+divisor w (pos n) e h = h
+divisor w (negsuc n) e h = never (sym e)
+
+pub quot-neg : (m k : ℕ) → quotZ (negℤ (pos m)) (pos k) ≡ negℤ (pos (m / k))
+quot-neg zero k = rw (zero-div k)
+quot-neg (suc m) k = refl
+
+-- ---- the test of equality, which is made on the bits
+
+eqb-iff : (a b c d : ℕ) → (a ≡ b → c ≡ d) → (c ≡ d → a ≡ b) → eqb a b ≡ eqb c d
+eqb-iff a b c d f g = go (eqb c d) refl
+  where
+    go : (t : Bool) → eqb c d ≡ t → eqb a b ≡ t
+    go true e = eq-eqb a b (g (eqb-true c d e))
+    go false e = ne-eqb a b (λ h. eqb-false c d e (f h))
+
+pub eq32 : (a b : ℤ) → SFits w32 a → SFits w32 b → eqb (ofZ w32 a) (ofZ w32 b) ≡ eqZ a b
+eq32 (pos m) (pos n) f g = refl
+eq32 (pos m) (negsuc n) f g = ne-eqb m (2 ^ 32 - suc n) (λ e. omega arith)
+eq32 (negsuc m) (pos n) f g = ne-eqb (2 ^ 32 - suc m) n (λ e. omega arith)
+eq32 (negsuc m) (negsuc n) f g =
+    eqb-iff (2 ^ 32 - suc m) (2 ^ 32 - suc n) m n (λ e. omega arith) (λ e. omega arith)
+
+pub eq64 : (a b : ℤ) → SFits w64 a → SFits w64 b → eqb (ofZ w64 a) (ofZ w64 b) ≡ eqZ a b
+eq64 (pos m) (pos n) f g = refl
+eq64 (pos m) (negsuc n) f g = ne-eqb m (2 ^ 64 - suc n) (λ e. omega arith)
+eq64 (negsuc m) (pos n) f g = ne-eqb (2 ^ 64 - suc m) n (λ e. omega arith)
+eq64 (negsuc m) (negsuc n) f g =
+    eqb-iff (2 ^ 64 - suc m) (2 ^ 64 - suc n) m n (λ e. omega arith) (λ e. omega arith)
+
+pub eqZ-true : (a b : ℤ) → eqZ a b ≡ true → a ≡ b
+eqZ-true (pos a) (pos b) e = ap pos (eqb-true a b e)
+eqZ-true (pos a) (negsuc b) e = never e
+eqZ-true (negsuc a) (pos b) e = never e
+eqZ-true (negsuc a) (negsuc b) e = ap negsuc (eqb-true a b e)

@@ -1,0 +1,4 @@
+pub mod Sign
+pub mod Exact
+pub mod Meaning
+pub mod Tables
