@@ -5,7 +5,7 @@ use mathlib.Core.Bool.{Bool, true, false}
 use mathlib.Core.Logic.{_⊎_, inl, inr}
 use Prim.Native.Nat.{ℕ, zero, suc, _+_, _*_, _-_, _/_, _^_, _≤_, _<_}
 use native.Mathlib.Omega.{arith}
-use native.Mathlib.Nat.{div-mul-le-self, lt-div-mul-add, div-eq-of-lt-le, eq-or-lt-of-le}
+use native.Mathlib.Nat.{div-mul-le-self, lt-div-mul-add, div-eq-of-lt-le, div-le-self, eq-or-lt-of-le}
 use borrow.Author.Tests.{ltb-false, le-ltb, lt-ltb}
 use lib.Dec.{ltb}
 use lib.IntN.{ℤ, pos, negsuc, negℤ, natAbs, subℕ, _+ℤ_, _-ℤ_, _*ℤ_, *ℤ-comm, negℤ-+ℤ, negℤ-negℤ}
@@ -37,6 +37,11 @@ pub abs-nearest : (n : ℤ) (d : ℕ) → natAbs (nearest n d) ≡ halfUp (natAb
 unfolding nearest
 abs-nearest (pos n) d = refl
 abs-nearest (negsuc n) d = abs-neg (pos (halfUp (suc n) d))
+
+-- a bound that needs no fact of the divisor
+pub nearest-le : (n : ℤ) (d : ℕ) → natAbs (nearest n d) ≤ 2 * natAbs n + d
+unfolding halfUp
+nearest-le n d = rw (abs-nearest n d) (div-le-self (2 * natAbs n + d) (2 * d))
 
 pub nearest-is : (n : ℤ) (d : ℕ) → 0 < d → IsNearest n d (nearest n d)
 unfolding nearest

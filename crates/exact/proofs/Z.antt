@@ -4,14 +4,14 @@ use mathlib.Core.Bool.{Bool, true, false, cond, _&&_}
 use Prim.Native.Nat.{ℕ, zero, suc, _+_, _*_, _-_, _/_, _^_, _≤_, _<_, zero-le}
 use native.Mathlib.Nat.{mul-le-mul, le-of-lt, div-le-self, zero-div}
 use native.Mathlib.Omega.{arith}
-use borrow.Author.Tests.{le-ltb, ltb-true, ltb-false, leb-true, eq-eqb, ne-eqb, eqb-true, eqb-false}
+use borrow.Author.Tests.{le-ltb, le-leb, ltb-true, ltb-false, leb-true, eq-eqb, ne-eqb, eqb-true, eqb-false}
 use lib.IntN.{ℤ, pos, negsuc, negℤ, natAbs, subℕ, _+ℤ_, _-ℤ_, _*ℤ_, +ℤ-idl, *ℤ-zero, negℤ-negℤ, negℤ-+ℤ}
 use lib.Dec.{T, ltb, leb, eqb}
 use lib.Signed.{mag, ltZ, leZ, nonNeg, quotZ}
 use mir.Syntax.{Width, w32, w64}
 use mir.Val.{SFits, hbits, toZ, ofZ}
 use mir.Facts.{toZ-ofZ, sfits-widen}
-use Rattle.exact.specs.Sign.{isNeg, eqZ}
+use Rattle.exact.specs.Sign.{isNeg, eqZ, within}
 
 -- what is read back from the bits of z, where z is v and v fits
 pub rd : {w : Width} {z v : ℤ} → z ≡ v → SFits w v → toZ w (ofZ w z) ≡ v
@@ -208,3 +208,14 @@ eqZ-true (pos a) (pos b) e = ap pos (eqb-true a b e)
 eqZ-true (pos a) (negsuc b) e = never e
 eqZ-true (negsuc a) (pos b) e = never e
 eqZ-true (negsuc a) (negsuc b) e = ap negsuc (eqb-true a b e)
+
+-- what is not less is at most
+pub not-less : (a b : ℤ) → ltZ a b ≡ false → leZ b a ≡ true
+not-less (pos a) (pos b) e = le-leb b a (ltb-false a b e)
+not-less (pos a) (negsuc b) e = refl
+not-less (negsuc a) (pos b) e = never (sym e)
+not-less (negsuc a) (negsuc b) e = le-leb a b (ltb-false b a e)
+
+-- a number that is neither above hi nor below lo
+pub within-is : (lo hi z : ℤ) → ltZ hi z ≡ false → ltZ z lo ≡ false → within lo hi z ≡ true
+within-is lo hi z h l = rw (not-less z lo l, not-less hi z h)

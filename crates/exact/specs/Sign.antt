@@ -1,15 +1,26 @@
--- On which side of zero a number lies, and whether two numbers are equal, as tests that compute.
-use mathlib.Core.Bool.{Bool, true, false}
+-- Tests on signed numbers that compute, and how the numbers below zero are written.
+use mathlib.Core.Bool.{Bool, true, false, _&&_}
+use Prim.Native.Nat.{ℕ}
 use lib.Dec.{eqb}
-use lib.IntN.{ℤ, pos, negsuc}
+use lib.IntN.{ℤ, pos, negsuc, negℤ}
+use lib.Signed.{leZ}
 
--- `negsuc n` is -(n + 1)
+-- z is below zero; `negsuc n` is -(n + 1)
 abbrev pub isNeg : ℤ → Bool
 isNeg (pos n) = false
 isNeg (negsuc n) = true
 
+-- two numbers are equal
 abbrev pub eqZ : ℤ → ℤ → Bool
 eqZ (pos a) (pos b) = eqb a b
 eqZ (pos a) (negsuc b) = false
 eqZ (negsuc a) (pos b) = false
 eqZ (negsuc a) (negsuc b) = eqb a b
+
+-- -n, for the numbers of document 01 that lie below zero
+abbrev pub minus : ℕ → ℤ
+minus n = negℤ (pos n)
+
+-- lo ≤ z ≤ hi
+abbrev pub within : ℤ → ℤ → ℤ → Bool
+within lo hi z = leZ lo z && leZ z hi

@@ -1,0 +1,4 @@
+pub mod Search
+pub mod Fit
+pub mod Scale
+pub mod Laws

@@ -1,0 +1,38 @@
+-- An accepted scale at the segment that is found: there is a point to the right, and both points are such as the line asks. Assumes nothing.
+use mathlib.Core.Path.{_≡_}
+use mathlib.Core.Bool.{true}
+use mathlib.Core.List.{List}
+use Prim.Native.Nat.{ℕ, _+_, _<_}
+use native.Mathlib.Omega.{arith}
+use lib.IntN.{ℤ}
+use Rattle.exact.specs.Exact.{Fraction}
+use Rattle.exact.proofs.Z.{from-to}
+use Rattle.reading.specs.Reading.{inInput, point, segment, lineOf, Points, Accepted}
+use Rattle.reading.proofs.Search.{segment-le}
+use Rattle.reading.proofs.Fit.{line-small}
+
+module _ (inputs displays : List ℤ) (count : ℕ) (step : ℤ) (a : Accepted inputs displays count step) where
+  pub right-there : (x : ℤ) → segment inputs count x + 1 < count
+  right-there x = omega (arith, segment-le inputs x count, a .two)
+
+  pub points : (x : ℤ) (k : ℕ) → k + 1 < count → inInput x ≡ true → Points (point inputs k) (point displays k) (point inputs (k + 1)) (point displays (k + 1)) x
+  points x k h i =
+      let here : k < count = omega arith in
+      record {
+        left = a .inputs-in k here;
+        right = a .inputs-in (k + 1) h;
+        rising = a .rising k h;
+        start = a .displays-in k here;
+        end = a .displays-in (k + 1) h;
+        input = i;
+      }
+
+  -- the line's whole number, over the step
+  pub over-step : (x : ℤ) (k : ℕ) → k + 1 < count → inInput x ≡ true → Fraction (lineOf inputs displays k x) step
+  over-step x k h i =
+      let s = from-to step 1 100 (a .step-in) in
+      record {
+        divisor = record { above = s .0; some = s .1 .0 };
+        small = line-small _ _ _ _ _ (points x k h i);
+        narrow = omega arith;
+      }
