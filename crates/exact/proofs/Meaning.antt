@@ -8,11 +8,11 @@ use native.Mathlib.Omega.{arith}
 use native.Mathlib.Nat.{div-mul-le-self, lt-div-mul-add, div-eq-of-lt-le, div-le-self, eq-or-lt-of-le}
 use borrow.Author.Tests.{ltb-false, le-ltb, lt-ltb}
 use lib.Dec.{ltb}
-use lib.IntN.{ℤ, pos, negsuc, negℤ, natAbs, subℕ, _+ℤ_, _-ℤ_, _*ℤ_, *ℤ-comm, negℤ-+ℤ, negℤ-negℤ}
+use lib.IntN.{ℤ, pos, negsuc, negℤ, natAbs, subℕ, _+ℤ_, _-ℤ_, _*ℤ_, +ℤ-invr, *ℤ-comm, negℤ-+ℤ, negℤ-negℤ}
 use Rattle.exact.specs.Sign.{isNeg}
 use Rattle.exact.specs.Exact.{halfUp, nearest, toStep, cut, floor}
 use Rattle.exact.specs.Meaning.{IsNearest, IsCut, IsFloor}
-use Rattle.exact.proofs.Z.{never, abs-diff, abs-subℕ, abs-neg-neg, abs-neg, abs-mul, mul-neg, between-signs, between-signs′}
+use Rattle.exact.proofs.Z.{never, abs-diff, abs-subℕ, abs-neg-neg, abs-neg, abs-mul, mul-neg, mul-one, between-signs, between-signs′}
 
 -- ---- distances, on the same side of zero and on two sides
 
@@ -80,6 +80,12 @@ nearest-only (negsuc a) d (pos zero) h i = ap (λ (m : ℕ). negℤ (pos m)) (ha
 nearest-only (negsuc a) d (pos (suc m)) h i = absurd (omega (arith, between-signs′ (d * suc m) (suc a), i .near))
 nearest-only (negsuc a) d (negsuc m) h i = ap (λ (m : ℕ). negℤ (pos m)) (half-only-below a d (suc m) h i)
 
+-- a whole number, divided by what it was multiplied with, is itself
+pub nearest-whole : (z : ℤ) (d : ℕ) → 0 < d → nearest (pos d *ℤ z) d ≡ z
+nearest-whole z d h =
+    let e : natAbs (pos d *ℤ z -ℤ pos d *ℤ z) ≡ 0 = ap natAbs (+ℤ-invr (pos d *ℤ z)) in
+    sym (nearest-only (pos d *ℤ z) d z h (record { near = omega arith; away = λ t. absurd (omega arith) }))
+
 -- ---- to a step
 
 -- a multiple of the step that is at most half a step away
@@ -90,6 +96,12 @@ step-near v step h = rw (*ℤ-comm (nearest v step) (pos step)) (nearest-is v st
 pub step-abs : (v : ℤ) (step : ℕ) → 2 * natAbs (toStep v step) ≤ 2 * natAbs v + step
 unfolding toStep
 step-abs v step = rw (abs-mul (nearest v step) (pos step), abs-nearest v step) (omega (arith, half-low (natAbs v) step))
+
+-- every whole number is a multiple of 1
+pub step-one : (v : ℤ) → toStep v 1 ≡ v
+unfolding toStep
+step-one v =
+    *ℤ-comm (nearest v 1) (pos 1) ∙ mul-one (nearest v 1) ∙ ap (λ (z : ℤ). nearest z 1) (sym (mul-one v)) ∙ nearest-whole v 1 (omega arith)
 
 -- ---- cut
 

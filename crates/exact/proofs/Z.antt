@@ -1,11 +1,11 @@
 -- The kit of laws on ℤ, by the magnitude `natAbs`, a ℕ, which omega reads. Every crate cites it. Assumes nothing.
-use mathlib.Core.Path.{_≡_, refl, sym, ap, subst, _∙_}
+use mathlib.Core.Path.{_≡_, refl, sym, ap, ap₂, subst, _∙_}
 use mathlib.Core.Bool.{Bool, true, false, cond, _&&_}
 use Prim.Native.Nat.{ℕ, zero, suc, _+_, _*_, _-_, _/_, _^_, _≤_, _<_, zero-le}
 use native.Mathlib.Nat.{mul-le-mul, le-of-lt, div-le-self, zero-div}
 use native.Mathlib.Omega.{arith}
-use borrow.Author.Tests.{le-ltb, le-leb, ltb-true, ltb-false, leb-true, eq-eqb, ne-eqb, eqb-true, eqb-false}
-use lib.IntN.{ℤ, pos, negsuc, negℤ, natAbs, subℕ, _+ℤ_, _-ℤ_, _*ℤ_, +ℤ-idl, *ℤ-zero, negℤ-negℤ, negℤ-+ℤ}
+use borrow.Author.Tests.{lt-ltb, le-ltb, le-leb, ltb-true, ltb-false, leb-true, leb-false, eq-eqb, ne-eqb, eqb-true, eqb-false}
+use lib.IntN.{ℤ, pos, negsuc, negℤ, natAbs, subℕ, _+ℤ_, _-ℤ_, _*ℤ_, +ℤ-idl, +ℤ-assoc, +ℤ-comm, zero-*ℤ, sucℤ-*ℤ, *ℤ-zero, negℤ-negℤ, negℤ-+ℤ}
 use lib.Dec.{T, ltb, leb, eqb}
 use lib.Signed.{mag, ltZ, leZ, nonNeg, quotZ}
 use mir.Syntax.{Width, w32, w64}
@@ -219,3 +219,61 @@ not-less (negsuc a) (negsuc b) e = le-leb a b (ltb-false b a e)
 -- a number that is neither above hi nor below lo
 pub within-is : (lo hi z : ℤ) → ltZ hi z ≡ false → ltZ z lo ≡ false → within lo hi z ≡ true
 within-is lo hi z h l = rw (not-less z lo l, not-less hi z h)
+
+-- and what is at most is not less
+pub at-most : (a b : ℤ) → leZ a b ≡ true → ltZ b a ≡ false
+at-most (pos a) (pos b) e = le-ltb b a (leb-true a b e)
+at-most (pos a) (negsuc b) e = never e
+at-most (negsuc a) (pos b) e = refl
+at-most (negsuc a) (negsuc b) e = le-ltb a b (leb-true b a e)
+
+pub not-at-most : (a b : ℤ) → leZ a b ≡ false → ltZ b a ≡ true
+not-at-most (pos a) (pos b) e = lt-ltb b a (leb-false a b e)
+not-at-most (pos a) (negsuc b) e = refl
+not-at-most (negsuc a) (pos b) e = never (sym e)
+not-at-most (negsuc a) (negsuc b) e = lt-ltb a b (leb-false b a e)
+
+-- a number within two limits is neither above nor below them
+pub within-not : (lo hi z : ℤ) → within lo hi z ≡ true → (ltZ hi z ≡ false) × (ltZ z lo ≡ false)
+within-not lo hi z e =
+    let p = both (leZ lo z) (leZ z hi) e in
+    (at-most z hi (p .1), at-most lo z (p .0))
+
+pub le-refl : (a : ℤ) → leZ a a ≡ true
+le-refl (pos a) = le-leb a a (omega arith)
+le-refl (negsuc a) = le-leb a a (omega arith)
+
+pub lt-le : (a b : ℤ) → ltZ a b ≡ true → leZ a b ≡ true
+lt-le (pos a) (pos b) e = le-leb a b (omega (arith, ltb-true))
+lt-le (pos a) (negsuc b) e = never e
+lt-le (negsuc a) (pos b) e = refl
+lt-le (negsuc a) (negsuc b) e = le-leb b a (omega (arith, ltb-true))
+
+pub lt-trans : (a b c : ℤ) → ltZ a b ≡ true → ltZ b c ≡ true → ltZ a c ≡ true
+lt-trans (pos a) (pos b) (pos c) e f = lt-ltb a c (omega (arith, ltb-true))
+lt-trans (pos a) (pos b) (negsuc c) e f = never f
+lt-trans (pos a) (negsuc b) c e f = never e
+lt-trans (negsuc a) (pos b) (pos c) e f = refl
+lt-trans (negsuc a) (pos b) (negsuc c) e f = never f
+lt-trans (negsuc a) (negsuc b) (pos c) e f = refl
+lt-trans (negsuc a) (negsuc b) (negsuc c) e f = lt-ltb c a (omega (arith, ltb-true))
+
+-- ---- sums and products
+
+regroup : (p q a b : ℤ) → (p +ℤ q) +ℤ (a +ℤ b) ≡ (p +ℤ a) +ℤ (q +ℤ b)
+regroup p q a b =
+    +ℤ-assoc p q (a +ℤ b)
+    ∙ ap (λ (z : ℤ). p +ℤ z) (sym (+ℤ-assoc q a b) ∙ ap (λ (z : ℤ). z +ℤ b) (+ℤ-comm q a) ∙ +ℤ-assoc a q b)
+    ∙ sym (+ℤ-assoc p a (q +ℤ b))
+
+-- a natural factor goes into a sum
+pub mul-add : (d : ℕ) (a b : ℤ) → pos d *ℤ (a +ℤ b) ≡ pos d *ℤ a +ℤ pos d *ℤ b
+mul-add zero a b = zero-*ℤ (a +ℤ b) ∙ sym (ap₂ _+ℤ_ (zero-*ℤ a) (zero-*ℤ b))
+mul-add (suc d) a b =
+    sucℤ-*ℤ (pos d) (a +ℤ b)
+    ∙ ap (λ (z : ℤ). z +ℤ (a +ℤ b)) (mul-add d a b)
+    ∙ regroup (pos d *ℤ a) (pos d *ℤ b) a b
+    ∙ sym (ap₂ _+ℤ_ (sucℤ-*ℤ (pos d) a) (sucℤ-*ℤ (pos d) b))
+
+pub mul-one : (z : ℤ) → pos 1 *ℤ z ≡ z
+mul-one z = sucℤ-*ℤ (pos 0) z ∙ ap (λ (x : ℤ). x +ℤ z) (zero-*ℤ z) ∙ +ℤ-idl z

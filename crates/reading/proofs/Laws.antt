@@ -8,14 +8,15 @@ use Prim.Native.Nat.{ℕ, zero, suc, _+_, _*_, _-_, _≤_, _<_}
 use native.Mathlib.Omega.{arith}
 use native.Mathlib.Numerals.{add-one}
 use native.Mathlib.Decide.{decLe, decLt}
-use lib.IntN.{ℤ, pos, negsuc, natAbs, _+ℤ_, _-ℤ_, _*ℤ_}
+use lib.IntN.{ℤ, pos, negsuc, natAbs, _+ℤ_, _-ℤ_, _*ℤ_, +ℤ-invr, +ℤ-idr, +ℤ-comm, -ℤ-+ℤ-cancel, zero-*ℤ, *ℤ-comm}
 use lib.Signed.{leZ, ltZ}
 use Rattle.exact.specs.Sign.{minus, within}
 use Rattle.exact.specs.Exact.{nearest, toStep}
-use Rattle.exact.specs.Meaning.{IsNearest}
-use Rattle.exact.proofs.Z.{never, within-is, lt-diff}
-use Rattle.exact.proofs.Meaning.{nearest-only}
+use Rattle.exact.proofs.Z.{never, within-is, within-not, at-most, not-at-most, le-refl, lt-le, lt-trans, lt-diff, is-pos, mul-add}
+use Rattle.exact.proofs.Meaning.{nearest-whole, step-one}
 use Rattle.reading.specs.Reading.{inInput, inDisplay, point, segment, line, lineOf, judged, displayed, readingOf, displayable, Accepted}
+use Rattle.reading.specs.Meaning.{IsSegment}
+use Rattle.reading.proofs.Search.{segment-le, segment-before, segment-at}
 use Rattle.reading.specs.declared.Reading.{Reading}
 use Rattle.reading.specs.declared.Reading.the-variants.{Nothing, Under, Number, Over}
 
@@ -42,3 +43,111 @@ reading-displayable inputs displays count step x =
     either (ltZ (pos 99999) x) Over _ refl
     (either (ltZ x (minus 99999)) Under _ refl
     (judged-displayable (toStep (lineOf inputs displays (segment inputs count x) x) (natAbs step))))
+
+-- ---- which segment it is, and that no other is
+
+pub segment-is : (inputs : List ℤ) (count : ℕ) (x : ℤ) → 2 ≤ count → IsSegment inputs count x (segment inputs count x)
+segment-is inputs count x h =
+    record {
+      there = omega (arith, segment-le inputs x count);
+      before = λ j l. not-at-most x (point inputs (j + 1)) (rw (add-one j) (segment-before inputs x count j l));
+      here = λ l. rw (add-one (segment inputs count x)) (segment-at inputs x count (omega arith));
+    }
+
+-- the first of two such segments is not before the second
+not-before : (inputs : List ℤ) (count : ℕ) (x : ℤ) (j k : ℕ) → IsSegment inputs count x j → IsSegment inputs count x k → j < k → ⊥
+not-before inputs count x j k a b l =
+    let t = b .there in
+    let e = at-most x (point inputs (j + 1)) (a .here (omega arith)) in
+    never (sym e ∙ b .before j l)
+
+pub segment-only : (inputs : List ℤ) (count : ℕ) (x : ℤ) (k : ℕ) → IsSegment inputs count x k → segment inputs count x ≡ k
+segment-only inputs count x k a =
+    let t = a .there in
+    let s = segment-is inputs count x (omega arith) in
+    both-ways (not-before inputs count x (segment inputs count x) k s a) (not-before inputs count x k (segment inputs count x) a s)
+  where
+    both-ways : {m n : ℕ} → (m < n → ⊥) → (n < m → ⊥) → m ≡ n
+    both-ways p q = omega (arith, p, q)
+
+-- ---- the line at its two points
+
+module _ (x0 y0 x1 y1 : ℤ) (up : ltZ x0 x1 ≡ true) where
+  run-is : x1 -ℤ x0 ≡ pos (natAbs (x1 -ℤ x0))
+  run-is = is-pos (x1 -ℤ x0) (lt-diff x0 x1 up .0)
+
+  pub line-left : line x0 y0 x1 y1 x0 ≡ y0
+  unfolding line
+  line-left =
+      rw (+ℤ-invr x0, zero-*ℤ (y1 -ℤ y0), +ℤ-idr (y0 *ℤ (x1 -ℤ x0)), *ℤ-comm y0 (x1 -ℤ x0), run-is)
+      (nearest-whole y0 (natAbs (x1 -ℤ x0)) (lt-diff x0 x1 up .1))
+
+  pub line-right : line x0 y0 x1 y1 x1 ≡ y1
+  unfolding line
+  line-right =
+      let d = natAbs (x1 -ℤ x0) in
+      rw (*ℤ-comm y0 (x1 -ℤ x0), run-is)
+      (ap (λ (z : ℤ). nearest z d)
+      (sym (mul-add d y0 (y1 -ℤ y0)) ∙ ap (λ (z : ℤ). pos d *ℤ z) (+ℤ-comm y0 (y1 -ℤ y0) ∙ -ℤ-+ℤ-cancel y1 y0))
+      ∙ nearest-whole y1 d (lt-diff x0 x1 up .1))
+
+-- ---- the reading at a point of the scale
+
+-- a number of the display range is read as it is
+pub judged-in : (v : ℤ) → inDisplay v ≡ true → judged v ≡ Number v
+unfolding judged
+judged-in v i = let n = within-not (minus 19999) (pos 99999) v i in rw (n .0, n .1)
+
+module _ (inputs displays : List ℤ) (count : ℕ) (step : ℤ) (a : Accepted inputs displays count step) where
+  -- the inputs of any two points rise
+  rising-by : (j m k : ℕ) → k ≡ j + m + 1 → k < count → ltZ (point inputs j) (point inputs k) ≡ true
+  rising-by j zero k e h =
+      let e′ : k ≡ j + 1 = omega arith in
+      rw e′ (a .rising j (omega arith))
+  rising-by j (suc m) k e h =
+      let e′ : k ≡ (j + m + 1) + 1 = omega arith in
+      rw e′
+      (lt-trans (point inputs j) (point inputs (j + m + 1)) (point inputs ((j + m + 1) + 1))
+      (rising-by j m (j + m + 1) refl (omega arith)) (a .rising (j + m + 1) (omega arith)))
+
+  pub rising-between : (j k : ℕ) → j < k → k < count → ltZ (point inputs j) (point inputs k) ≡ true
+  rising-between j k l h = rising-by j (k - (j + 1)) k (omega arith) h
+
+  -- the first point lies on the first segment, every other at the right end of the one before it
+  first-segment : IsSegment inputs count (point inputs 0) 0
+  first-segment =
+      record {
+        there = omega (arith, a .two);
+        before = λ j l. absurd (omega arith);
+        here = λ l. lt-le (point inputs 0) (point inputs 1) (a .rising 0 (omega arith));
+      }
+
+  later-segment : (j : ℕ) → j + 1 < count → IsSegment inputs count (point inputs (j + 1)) j
+  later-segment j h =
+      record {
+        there = h;
+        before = λ i l. rising-between (i + 1) (j + 1) (omega arith) h;
+        here = λ l. le-refl (point inputs (j + 1));
+      }
+
+  line-first : lineOf inputs displays (segment inputs count (point inputs 0)) (point inputs 0) ≡ point displays 0
+  line-first =
+      rw (segment-only inputs count (point inputs 0) 0 first-segment)
+      (line-left (point inputs 0) (point displays 0) (point inputs 1) (point displays 1) (a .rising 0 (omega (arith, a .two))))
+
+  line-later : (j : ℕ) → j + 1 < count → lineOf inputs displays (segment inputs count (point inputs (j + 1))) (point inputs (j + 1)) ≡ point displays (j + 1)
+  line-later j h =
+      rw (segment-only inputs count (point inputs (j + 1)) j (later-segment j h))
+      (line-right (point inputs j) (point displays j) (point inputs (j + 1)) (point displays (j + 1)) (a .rising j h))
+
+  line-at : (k : ℕ) → k < count → lineOf inputs displays (segment inputs count (point inputs k)) (point inputs k) ≡ point displays k
+  line-at zero h = line-first
+  line-at (suc j) h = rw (add-one j) at (line-later j (rw (← add-one j) at h))
+
+-- with step 1 the reading at a point of the scale is the point's display
+pub at-point : (inputs displays : List ℤ) (count : ℕ) → Accepted inputs displays count (pos 1) → (k : ℕ) → k < count → readingOf inputs displays count (pos 1) (point inputs k) ≡ Number (point displays k)
+unfolding readingOf displayed
+at-point inputs displays count a k h =
+    let n = within-not (minus 99999) (pos 99999) (point inputs k) (a .inputs-in k h) in
+    rw (n .0, n .1, line-at inputs displays count (pos 1) a k h, step-one (point displays k))
+    (judged-in (point displays k) (a .displays-in k h))

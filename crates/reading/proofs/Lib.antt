@@ -2,3 +2,4 @@ pub mod Search
 pub mod Fit
 pub mod Scale
 pub mod Laws
+pub mod Cases
