@@ -105,6 +105,11 @@ step-one v =
 
 -- ---- cut
 
+pub abs-cut : (n : ℤ) (d : ℕ) → natAbs (cut n d) ≡ natAbs n / d
+unfolding cut
+abs-cut (pos n) d = refl
+abs-cut (negsuc n) d = abs-neg (pos (suc n / d))
+
 pub cut-is : (n : ℤ) (d : ℕ) → 0 < d → IsCut n d (cut n d)
 unfolding cut
 cut-is (pos n) d h =

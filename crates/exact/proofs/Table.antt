@@ -9,7 +9,7 @@ use native.Mathlib.Omega.{arith}
 use borrow.Author.Tests.{eqb-true}
 use lib.Dec.{T, eqb, leb}
 use lib.ListN.{length, getD, drop}
-use lib.Seq.{drop-cons}
+use lib.Seq.{drop-cons, drop-length}
 use lib.IntN.{ℤ, pos, natAbs}
 use lib.Signed.{leZ, ltZ}
 use Rattle.exact.specs.Sign.{isNeg, eqZ}
@@ -56,6 +56,10 @@ module _ (z : ℤ) (xs : List ℤ) (i : ℕ) where
   pub among-next : i < length xs → eqZ z (getD xs i (pos 0)) ≡ false → among z (drop i xs) ≡ among z (drop (i + 1) xs)
   unfolding among
   among-next h e = rw (drop-cons xs i (pos 0) h, e, add-one i)
+
+pub among-end : (z : ℤ) (xs : List ℤ) → among z (drop (length xs) xs) ≡ false
+unfolding among
+among-end z xs = rw (drop-length xs)
 
 -- what holds of every entry holds of a number that stands among them
 by-entry : (test : ℤ → Bool) (z x : ℤ) (b r : Bool) → eqZ z x ≡ b → test x ≡ true → (r ≡ true → test z ≡ true) → b || r ≡ true → test z ≡ true

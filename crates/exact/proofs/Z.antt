@@ -1,13 +1,13 @@
 -- The kit of laws on ℤ, by the magnitude `natAbs`, a ℕ, which omega reads. Every crate cites it. Assumes nothing.
 use mathlib.Core.Path.{_≡_, refl, sym, ap, ap₂, subst, _∙_}
-use mathlib.Core.Bool.{Bool, true, false, cond, _&&_}
+use mathlib.Core.Bool.{Bool, true, false, cond, not, _&&_}
 use Prim.Native.Nat.{ℕ, zero, suc, _+_, _*_, _-_, _/_, _^_, _≤_, _<_, zero-le}
 use native.Mathlib.Nat.{mul-le-mul, le-of-lt, div-le-self, zero-div}
 use native.Mathlib.Omega.{arith}
-use borrow.Author.Tests.{lt-ltb, le-ltb, le-leb, ltb-true, ltb-false, leb-true, leb-false, eq-eqb, ne-eqb, eqb-true, eqb-false}
-use lib.IntN.{ℤ, pos, negsuc, negℤ, natAbs, subℕ, _+ℤ_, _-ℤ_, _*ℤ_, +ℤ-idl, +ℤ-assoc, +ℤ-comm, zero-*ℤ, sucℤ-*ℤ, *ℤ-zero, negℤ-negℤ, negℤ-+ℤ}
-use lib.Dec.{T, ltb, leb, eqb}
-use lib.Signed.{mag, ltZ, leZ, nonNeg, quotZ}
+use borrow.Author.Tests.{lt-ltb, le-ltb, le-leb, lt-leb, ltb-true, ltb-false, leb-true, leb-false, eq-eqb, ne-eqb, eqb-true, eqb-false}
+use lib.IntN.{ℤ, pos, negsuc, negℤ, natAbs, subℕ, _+ℤ_, _-ℤ_, _*ℤ_, +ℤ-idl, +ℤ-assoc, +ℤ-comm, zero-*ℤ, sucℤ-*ℤ, *ℤ-zero, negℤ-negℤ, negℤ-+ℤ, -ℤ-+ℤ-cancel}
+use lib.Dec.{T, ltb, leb, eqb, leb·suc-suc}
+use lib.Signed.{mag, ltZ, leZ, nonNeg, quotZ, natAbs-le, ltZ-yes, leZ-yes, <ℤ-≤ℤ-trans, clashℤ}
 use mir.Syntax.{Width, w32, w64}
 use mir.Val.{SFits, hbits, toZ, ofZ}
 use mir.Facts.{toZ-ofZ, sfits-widen}
@@ -124,6 +124,15 @@ pub both : (t u : Bool) → (t && u) ≡ true → (t ≡ true) × (u ≡ true)
 both true u e = (refl, e)
 both false u e = never e
 
+-- a test that is turned round
+pub turned-true : (t : Bool) → not t ≡ true → t ≡ false
+turned-true true e = never e
+turned-true false e = refl
+
+pub turned-false : (t : Bool) → not t ≡ false → t ≡ true
+turned-false true e = refl
+turned-false false e = never (sym e)
+
 -- −(lo + 1) ≤ z ≤ hi
 pub between-is : (z : ℤ) (hi lo : ℕ) → lo < hi → (leZ (negsuc lo) z && leZ z (pos hi)) ≡ true → natAbs z ≤ hi
 between-is (pos n) hi lo h e = omega (arith, leb-true)
@@ -209,35 +218,52 @@ eqZ-true (pos a) (negsuc b) e = never e
 eqZ-true (negsuc a) (pos b) e = never e
 eqZ-true (negsuc a) (negsuc b) e = ap negsuc (eqb-true a b e)
 
--- what is not less is at most
-pub not-less : (a b : ℤ) → ltZ a b ≡ false → leZ b a ≡ true
-not-less (pos a) (pos b) e = le-leb b a (ltb-false a b e)
-not-less (pos a) (negsuc b) e = refl
-not-less (negsuc a) (pos b) e = never (sym e)
-not-less (negsuc a) (negsuc b) e = le-leb a b (ltb-false b a e)
+pub eqZ-refl : (a : ℤ) → eqZ a a ≡ true
+eqZ-refl (pos n) = eq-eqb n n refl
+eqZ-refl (negsuc n) = eq-eqb n n refl
+
+pub eqZ-false : (a b : ℤ) → (a ≡ b → ⊥) → eqZ a b ≡ false
+eqZ-false a b h = go (eqZ a b) refl
+  where
+    go : (t : Bool) → eqZ a b ≡ t → eqZ a b ≡ false
+    go true e = absurd (h (eqZ-true a b e))
+    go false e = e
+
+-- ---- an order and its denial
+
+pub not-lt : (a b : ℤ) → ltZ a b ≡ false → leZ b a ≡ true
+not-lt (pos a) (pos b) e = le-leb b a (ltb-false a b e)
+not-lt (pos a) (negsuc b) e = refl
+not-lt (negsuc a) (pos b) e = never (sym e)
+not-lt (negsuc a) (negsuc b) e = le-leb a b (ltb-false b a e)
+
+pub not-le : (a b : ℤ) → leZ a b ≡ false → ltZ b a ≡ true
+not-le (pos a) (pos b) e = lt-ltb b a (leb-false a b e)
+not-le (pos a) (negsuc b) e = refl
+not-le (negsuc a) (pos b) e = never (sym e)
+not-le (negsuc a) (negsuc b) e = lt-ltb a b (leb-false b a e)
+
+pub le-not-lt : (a b : ℤ) → leZ b a ≡ true → ltZ a b ≡ false
+le-not-lt (pos a) (pos b) e = le-ltb a b (leb-true b a e)
+le-not-lt (pos a) (negsuc b) e = refl
+le-not-lt (negsuc a) (pos b) e = never e
+le-not-lt (negsuc a) (negsuc b) e = le-ltb b a (leb-true a b e)
+
+pub lt-not-le : (a b : ℤ) → ltZ a b ≡ true → leZ b a ≡ false
+lt-not-le (pos a) (pos b) e = lt-leb b a (ltb-true a b e)
+lt-not-le (pos a) (negsuc b) e = never e
+lt-not-le (negsuc a) (pos b) e = refl
+lt-not-le (negsuc a) (negsuc b) e = lt-leb a b (ltb-true b a e)
 
 -- a number that is neither above hi nor below lo
 pub within-is : (lo hi z : ℤ) → ltZ hi z ≡ false → ltZ z lo ≡ false → within lo hi z ≡ true
-within-is lo hi z h l = rw (not-less z lo l, not-less hi z h)
-
--- and what is at most is not less
-pub at-most : (a b : ℤ) → leZ a b ≡ true → ltZ b a ≡ false
-at-most (pos a) (pos b) e = le-ltb b a (leb-true a b e)
-at-most (pos a) (negsuc b) e = never e
-at-most (negsuc a) (pos b) e = refl
-at-most (negsuc a) (negsuc b) e = le-ltb a b (leb-true b a e)
-
-pub not-at-most : (a b : ℤ) → leZ a b ≡ false → ltZ b a ≡ true
-not-at-most (pos a) (pos b) e = lt-ltb b a (leb-false a b e)
-not-at-most (pos a) (negsuc b) e = refl
-not-at-most (negsuc a) (pos b) e = never (sym e)
-not-at-most (negsuc a) (negsuc b) e = lt-ltb a b (leb-false b a e)
+within-is lo hi z h l = rw (not-lt z lo l, not-lt hi z h)
 
 -- a number within two limits is neither above nor below them
 pub within-not : (lo hi z : ℤ) → within lo hi z ≡ true → (ltZ hi z ≡ false) × (ltZ z lo ≡ false)
 within-not lo hi z e =
     let p = both (leZ lo z) (leZ z hi) e in
-    (at-most z hi (p .1), at-most lo z (p .0))
+    (le-not-lt hi z (p .1), le-not-lt z lo (p .0))
 
 pub le-refl : (a : ℤ) → leZ a a ≡ true
 le-refl (pos a) = le-leb a a (omega arith)
@@ -258,6 +284,32 @@ lt-trans (negsuc a) (pos b) (negsuc c) e f = never f
 lt-trans (negsuc a) (negsuc b) (pos c) e f = refl
 lt-trans (negsuc a) (negsuc b) (negsuc c) e f = lt-ltb c a (omega (arith, ltb-true))
 
+-- a test that is true holds
+pub holds : {t : Bool} → t ≡ true → T t
+holds e = subst T (sym e) tt
+
+-- no number is below itself
+pub lt-self : (z : ℤ) → ltZ z z ≡ false
+lt-self (pos n) = le-ltb n n (omega arith)
+lt-self (negsuc n) = le-ltb n n (omega arith)
+
+-- a < b and b ≤ c and c ≤ a cannot be
+pub lt-le-le : (a b c : ℤ) → ltZ a b ≡ true → leZ b c ≡ true → leZ c a ≡ true → ⊥
+lt-le-le a b c p q r =
+    clashℤ {a = a} {b = c} (<ℤ-≤ℤ-trans {a = a} {b = b} (ltZ-yes (holds p)) (leZ-yes (holds q))) (leZ-yes (holds r))
+
+-- a minus turns an order round
+pub lt-neg : (a b : ℤ) → ltZ (negℤ a) (negℤ b) ≡ ltZ b a
+lt-neg (pos zero) (pos zero) = refl
+lt-neg (pos zero) (pos (suc n)) = sym (le-ltb (suc n) 0 zero-le)
+lt-neg (pos zero) (negsuc n) = lt-ltb 0 (suc n) (omega arith)
+lt-neg (pos (suc m)) (pos zero) = sym (lt-ltb 0 (suc m) (omega arith))
+lt-neg (pos (suc m)) (pos (suc n)) = sym (leb·suc-suc (suc n) m)
+lt-neg (pos (suc m)) (negsuc n) = refl
+lt-neg (negsuc m) (pos zero) = le-ltb (suc m) 0 zero-le
+lt-neg (negsuc m) (pos (suc n)) = refl
+lt-neg (negsuc m) (negsuc n) = leb·suc-suc (suc m) n
+
 -- ---- sums and products
 
 regroup : (p q a b : ℤ) → (p +ℤ q) +ℤ (a +ℤ b) ≡ (p +ℤ a) +ℤ (q +ℤ b)
@@ -277,3 +329,39 @@ mul-add (suc d) a b =
 
 pub mul-one : (z : ℤ) → pos 1 *ℤ z ≡ z
 mul-one z = sucℤ-*ℤ (pos 0) z ∙ ap (λ (x : ℤ). x +ℤ z) (zero-*ℤ z) ∙ +ℤ-idl z
+
+-- adding a natural number does not lead down, and adding one above zero leads up
+pub le-add : (z : ℤ) (n : ℕ) → leZ z (z +ℤ pos n) ≡ true
+le-add (pos a) n = le-leb a (a + n) (omega arith)
+le-add (negsuc a) n =
+    cond-ind (ltb n (suc a)) (negsuc (suc a - suc n)) (pos (n - suc a)) (λ z. leZ (negsuc a) z ≡ true)
+    (λ t. le-leb (suc a - suc n) a (omega arith)) (λ t. refl)
+
+pub lt-add : (z : ℤ) (n : ℕ) → ltZ z (z +ℤ pos (suc n)) ≡ true
+lt-add (pos a) n = lt-ltb a (a + suc n) (omega arith)
+lt-add (negsuc a) n =
+    cond-ind (ltb (suc n) (suc a)) (negsuc (suc a - suc (suc n))) (pos (suc n - suc a)) (λ z. ltZ (negsuc a) z ≡ true)
+    (λ t. lt-ltb (suc a - suc (suc n)) a (omega (arith, ltb-true))) (λ t. refl)
+
+-- taking one away is the same seen from the other end
+pub sub-le : (z : ℤ) (n : ℕ) → leZ (z -ℤ pos n) z ≡ true
+sub-le z n = ap (leZ (z -ℤ pos n)) (sym (-ℤ-+ℤ-cancel z (pos n))) ∙ le-add (z -ℤ pos n) n
+
+pub sub-lt : (z : ℤ) (n : ℕ) → ltZ (z -ℤ pos (suc n)) z ≡ true
+sub-lt z n = ap (ltZ (z -ℤ pos (suc n))) (sym (-ℤ-+ℤ-cancel z (pos (suc n)))) ∙ lt-add (z -ℤ pos (suc n)) n
+
+-- two numbers that differ: their difference is not 0
+pub differ-some : (a b : ℤ) → eqZ a b ≡ false → 0 < natAbs (b -ℤ a)
+differ-some (pos a) (pos b) e = omega (arith, abs-diff b a, eqb-false a b e)
+differ-some (pos a) (negsuc b) e = omega (arith, between-signs (suc b) a)
+differ-some (negsuc a) (pos b) e = omega arith
+differ-some (negsuc a) (negsuc b) e = omega (arith, abs-subℕ (suc a) (suc b), eqb-false a b e)
+
+-- below zero and turned: not below zero
+pub turned : (z : ℤ) → isNeg z ≡ true → isNeg (negℤ z) ≡ false
+turned (pos n) e = never e
+turned (negsuc n) e = refl
+
+-- the magnitude of a number that fits
+pub fits-abs : {w : Width} {z : ℤ} → SFits w z → natAbs z ≤ 2 ^ hbits w
+fits-abs {w} {z} f = natAbs-le z (f .sfits)

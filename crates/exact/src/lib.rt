@@ -41,6 +41,20 @@ pub fn floor(n: i64, d: i64) -> i64
     if n < 0 { (n + 1) / d - 1 } else { n / d }
 }
 
+// Whether n stands in a table.
+pub fn among(n: i32, table: &[i32]) -> bool
+    ensures { λ r. ⌜ r ≡ among n (now (table .entry)) ⌝ }
+{
+    let mut i = 0;
+    while i < table.len() {
+        if n == table[i] {
+            return true;
+        }
+        i += 1;
+    }
+    false
+}
+
 // The rounding steps.
 const STEPS: [i32; 7] = [1, 2, 5, 10, 20, 50, 100];
 
@@ -48,14 +62,7 @@ const STEPS: [i32; 7] = [1, 2, 5, 10, 20, 50, 100];
 pub fn is_step(n: i32) -> bool
     ensures { λ r. ⌜ r ≡ among n steps ⌝ }
 {
-    let mut i = 0;
-    while i < 7 {
-        if n == STEPS[i] {
-            return true;
-        }
-        i += 1;
-    }
-    false
+    among(n, &STEPS)
 }
 
 // A power of ten for each number of decimal places.

@@ -12,7 +12,7 @@ use lib.IntN.{ℤ, pos, negsuc, natAbs, _+ℤ_, _-ℤ_, _*ℤ_, +ℤ-invr, +ℤ-
 use lib.Signed.{leZ, ltZ}
 use Rattle.exact.specs.Sign.{minus, within}
 use Rattle.exact.specs.Exact.{nearest, toStep}
-use Rattle.exact.proofs.Z.{never, within-is, within-not, at-most, not-at-most, le-refl, lt-le, lt-trans, lt-diff, is-pos, mul-add}
+use Rattle.exact.proofs.Z.{never, within-is, within-not, le-not-lt, not-le, le-refl, lt-le, lt-trans, lt-diff, is-pos, mul-add}
 use Rattle.exact.proofs.Meaning.{nearest-whole, step-one}
 use Rattle.reading.specs.Reading.{inInput, inDisplay, point, segment, line, lineOf, judged, displayed, readingOf, displayable, Accepted}
 use Rattle.reading.specs.Meaning.{IsSegment}
@@ -50,7 +50,7 @@ pub segment-is : (inputs : List ℤ) (count : ℕ) (x : ℤ) → 2 ≤ count →
 segment-is inputs count x h =
     record {
       there = omega (arith, segment-le inputs x count);
-      before = λ j l. not-at-most x (point inputs (j + 1)) (rw (add-one j) (segment-before inputs x count j l));
+      before = λ j l. not-le x (point inputs (j + 1)) (rw (add-one j) (segment-before inputs x count j l));
       here = λ l. rw (add-one (segment inputs count x)) (segment-at inputs x count (omega arith));
     }
 
@@ -58,7 +58,7 @@ segment-is inputs count x h =
 not-before : (inputs : List ℤ) (count : ℕ) (x : ℤ) (j k : ℕ) → IsSegment inputs count x j → IsSegment inputs count x k → j < k → ⊥
 not-before inputs count x j k a b l =
     let t = b .there in
-    let e = at-most x (point inputs (j + 1)) (a .here (omega arith)) in
+    let e = le-not-lt (point inputs (j + 1)) x (a .here (omega arith)) in
     never (sym e ∙ b .before j l)
 
 pub segment-only : (inputs : List ℤ) (count : ℕ) (x : ℤ) (k : ℕ) → IsSegment inputs count x k → segment inputs count x ≡ k

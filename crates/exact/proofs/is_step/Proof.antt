@@ -1,79 +1,20 @@
--- `exact::is_step` meets its contract. The invariant: whether n stands in the table is whether it stands in what is left of it. Assumes nothing.
-use native.Mathlib.Omega.{arith}
-use mathlib.Core.Path.{_≡_, refl, sym, _∙_}
-use Prim.Native.Nat.{_≤_, _+_, _-_}
-use borrow.Author.Tests.{eq-eqb, ne-eqb}
-use lib.Dec.{eqb}
-use lib.ListN.{getD, drop}
-use lib.IntN.{pos}
-use mir.Syntax.{w32}
-use mir.Val.{toZ, ofZ}
+-- `exact::is_step` meets its contract: the constant table is the definition's list. Assumes nothing.
+use borrow.Author.Needs.{needs}
+use mathlib.Core.Path.{ap, _∙_}
+use lib.IntN.{ℤ}
 use mir.Facts.{toZ-ofZ}
-use Rattle.exact.specs.Sign.{eqZ}
 use Rattle.exact.specs.Tables.{among, steps}
-use Rattle.exact.proofs.Z.{eq32}
-use Rattle.exact.proofs.Table.{among-here, among-next}
 use Rattle.exact.proofs.is_step.Statement.{statement}
 use Rattle.exact.proofs.is_step.Tie as tie
 
-abbrev Inv-loop : tie.InvT-loop
-Inv-loop n i₀ i = (i ≤ 7) × (among (toZ w32 n) (drop i steps) ≡ among (toZ w32 n) steps)
+slice-aggregate-among : tie.Need-slice-aggregate-among
+slice-aggregate-among c = search needs
 
-abbrev μ-loop : tie.MeasureT-loop
-μ-loop n i₀ i = 7 - i
+among-requires : tie.Need-among-requires
+among-requires c κs = search needs
 
-loop-holds : tie.Need-loop-holds Inv-loop μ-loop
-loop-holds c = (omega arith, refl)
-
-mul-if1 : tie.Need-mul-if1 Inv-loop μ-loop
-mul-if1 c = omega arith
-
-array-copy-out-if1 : tie.Need-array-copy-out-if1 Inv-loop μ-loop
-array-copy-out-if1 c = omega arith
-
--- the invariant, of n itself
-left : (c : tie.At-loop Inv-loop μ-loop) → among (c .before .args .n) (drop (c .loop .i) steps) ≡ among (c .before .args .n) steps
-left c = rw (toZ-ofZ (c .before .fits .n)) at (c .loop .inv .1)
-
--- the test of the entry at i, which the machine makes on the bits
-test : (c : tie.After-if12 Inv-loop μ-loop) → eqb (ofZ w32 (c .before .before .before .args .n)) (ofZ w32 (getD steps (c .before .before .loop .i) (pos 0))) ≡ eqZ (c .before .before .before .args .n) (getD steps (c .before .before .loop .i) (pos 0))
-test c = eq32 _ _ (c .before .before .before .fits .n) (record { sfits = c .if12 .given })
-
-returns : tie.Need-returns Inv-loop μ-loop
-returns c =
-    let l = c .before .before .before in
-    sym (among-here (l .before .args .n) steps (l .loop .i) (omega arith) (sym (test (c .before)) ∙ eq-eqb _ _ (c .if1 .taken))) ∙ left l
-
-add-i : tie.Need-add-i Inv-loop μ-loop
-add-i c = omega arith
-
-loop-less : tie.Need-loop-less Inv-loop μ-loop
-loop-less c = omega arith
-
-loop-again : tie.Need-loop-again Inv-loop μ-loop
-loop-again c =
-    let l = c .before .before .before in
-    let e = sym (test (c .before)) ∙ ne-eqb _ _ (c .if1 .left) in
-    (omega arith, rw (toZ-ofZ (l .before .fits .n)) (sym (among-next (l .before .args .n) steps (l .loop .i) (omega arith) e) ∙ left l))
-
-returns-2 : tie.Need-returns-2 Inv-loop μ-loop
-unfolding among
-returns-2 c =
-    let l = c .before in
-    let e : l .loop .i ≡ 7 = omega arith in
-    rw e at (left l)
+returns : tie.Need-returns
+returns c = c .among .ensures ∙ ap (λ (z : ℤ). among z steps) (toZ-ofZ (c .before .before .fits .n))
 
 pub is-step-spec : {M : Type 1} → statement M
-is-step-spec =
-    tie.close
-    (tie.spec
-    Inv-loop
-    μ-loop
-    loop-holds
-    mul-if1
-    array-copy-out-if1
-    returns
-    add-i
-    loop-less
-    loop-again
-    returns-2)
+is-step-spec = tie.close (tie.spec slice-aggregate-among among-requires returns)

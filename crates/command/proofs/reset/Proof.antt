@@ -1,0 +1,28 @@
+-- `command::reset` meets its contract: the list says whether R takes the register. Assumes nothing.
+use borrow.Author.Needs.{needs}
+use mathlib.Core.Path.{_≡_}
+use mathlib.Core.Bool.{true, false}
+use Rattle.command.specs.Parse.{resetting}
+use Rattle.command.proofs.reset.Statement.{statement}
+use Rattle.command.proofs.reset.Tie as tie
+
+sole-register-requires : tie.Need-sole-register-requires
+sole-register-requires c κs = search needs
+
+register-at-requires : tie.Need-register-at-requires
+register-at-requires c κs = search needs
+
+returns : tie.Need-returns
+unfolding resetting
+returns c =
+    let t : c .before .register-at .result .reset ≡ true = c .if1 .taken in
+    rw (← c .before .before .sole-register .ensures, ← c .before .register-at .ensures, t)
+
+returns-2 : tie.Need-returns-2
+unfolding resetting
+returns-2 c =
+    let t : c .before .register-at .result .reset ≡ false = c .if1 .left in
+    rw (← c .before .before .sole-register .ensures, ← c .before .register-at .ensures, t)
+
+pub reset-spec : {M : Type 1} → statement M
+reset-spec = tie.close (tie.spec sole-register-requires register-at-requires returns returns-2)

@@ -1,0 +1,65 @@
+-- A V number: an optional leading minus and then digits and points, at least one digit; points are ignored and the last five digits count.
+-- Whether it is within a register's range is another question, and judged elsewhere.
+use Prim.Native.Nat.{ℕ, _+_, _-_, _*_}
+use mathlib.Core.Bool.{Bool, true, false, cond, _&&_, _||_}
+use mathlib.Core.List.{List, [], _∷_}
+use lib.Dec.{eqb}
+use lib.IntN.{pos, negℤ}
+use lib.ListN.{length, drop}
+use Rattle.register.specs.Bytes.{byte, within}
+use Rattle.command.specs.declared.Amount.{Amount}
+use Rattle.command.specs.declared.Amount.the-variants.{Of, NoAmount}
+use Rattle.command.specs.declared.Number.{Number}
+use Rattle.command.specs.declared.Number.the-variants.{Is, NoNumber}
+
+abbrev pub is-digit : ℕ → Bool
+is-digit b = within (byte "0") (byte "9") b
+
+abbrev pub is-point : ℕ → Bool
+is-point b = eqb b (byte ".")
+
+-- digits and points, and nothing else
+abbrev pub figures : List ℕ → Bool
+figures [] = true
+figures (b ∷ s) = (is-digit b || is-point b) && figures s
+
+-- the digits of a string, in order, each as its number
+abbrev pub keep : Bool → ℕ → List ℕ → List ℕ
+keep true d ds = d ∷ ds
+keep false d ds = ds
+
+abbrev pub digits : List ℕ → List ℕ
+digits [] = []
+digits (b ∷ s) = keep (is-digit b) (b - byte "0") (digits s)
+
+-- at least one
+abbrev pub filled : List ℕ → Bool
+filled [] = false
+filled (d ∷ ds) = true
+
+-- the number that digits say in base ten, behind what was read before them
+abbrev pub onward : ℕ → List ℕ → ℕ
+onward n [] = n
+onward n (d ∷ ds) = onward (10 * n + d) ds
+
+abbrev pub value : List ℕ → ℕ
+value ds = onward 0 ds
+
+-- the last k of a list, all of them where there are fewer
+abbrev pub last : ℕ → List ℕ → List ℕ
+last k ds = drop (length ds - k) ds
+
+unfoldable pub amount : List ℕ → Amount
+amount s = cond (figures s && filled (digits s)) (Of (value (last 5 (digits s)))) NoAmount
+
+abbrev pub plus : Amount → Number
+plus (Of n) = Is (pos n)
+plus NoAmount = NoNumber
+
+abbrev pub minus : Amount → Number
+minus (Of n) = Is (negℤ (pos n))
+minus NoAmount = NoNumber
+
+unfoldable pub number : List ℕ → Number
+number [] = NoNumber
+number (b ∷ s) = cond (eqb b (byte "-")) (minus (amount s)) (plus (amount (b ∷ s)))

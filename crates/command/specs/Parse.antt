@@ -1,0 +1,77 @@
+-- What a string asks, read from its first byte to its last. Crate `form` says the same by rules, and that both agree.
+use Prim.Native.Nat.{ℕ, _+_, _-_, _*_}
+use mathlib.Core.Bool.{cond}
+use mathlib.Core.List.{List, [], _∷_}
+use lib.Dec.{leb, eqb}
+use Rattle.register.specs.Bytes.{byte}
+use Rattle.register.specs.Registers.{entry, index}
+use Rattle.command.specs.Number.{is-digit, number}
+use Rattle.command.specs.declared.Number.{Number}
+use Rattle.command.specs.declared.Number.the-variants.{Is, NoNumber}
+use Rattle.command.specs.declared.Asked.{Asked}
+use Rattle.command.specs.declared.Asked.the-variants.{Read, Print, Reset, Write, Status, BadForm}
+use Rattle.command.specs.declared.Parsed.{Parsed}
+use Rattle.command.specs.declared.Parsed.the-variants.{NoNode, To}
+
+-- ── command, register, data ──
+
+-- the place of the register whose letter is all that stands there, and 10 for anything else
+unfoldable pub sole : List ℕ → ℕ
+sole [] = 10
+sole (l ∷ []) = index l
+sole (l ∷ b ∷ s) = 10
+
+-- T takes a register
+unfoldable pub reading : List ℕ → Asked
+reading s = cond (entry (sole s) .read) (Read (sole s)) BadForm
+
+-- R takes a register
+unfoldable pub resetting : List ℕ → Asked
+resetting s = cond (entry (sole s) .reset) (Reset (sole s)) BadForm
+
+-- P takes none
+unfoldable pub printing : List ℕ → Asked
+printing [] = Print
+printing (b ∷ s) = BadForm
+
+-- VJ takes exactly one byte of 0 to 127
+unfoldable pub status : List ℕ → Asked
+status [] = BadForm
+status (b ∷ []) = cond (leb b 127) (Status b) BadForm
+status (b ∷ c ∷ s) = BadForm
+
+abbrev pub write-to : ℕ → Number → Asked
+write-to r (Is z) = Write r z
+write-to r NoNumber = BadForm
+
+-- the data of V: a byte for J, else a number
+unfoldable pub data-of : ℕ → List ℕ → Asked
+data-of r s = cond (eqb r 9) (status s) (write-to r (number s))
+
+-- V takes a register and its data
+unfoldable pub writing : List ℕ → Asked
+writing [] = BadForm
+writing (l ∷ s) = cond (entry (index l) .written) (data-of (index l) s) BadForm
+
+unfoldable pub body : List ℕ → Asked
+body [] = BadForm
+body (b ∷ s) =
+    cond (eqb b (byte "T")) (reading s)
+    (cond (eqb b (byte "V")) (writing s)
+    (cond (eqb b (byte "R")) (resetting s)
+    (cond (eqb b (byte "P")) (printing s)
+    BadForm)))
+
+-- ── the address: N with one or two digits, as many as stand there; no N means node 0 ──
+
+unfoldable pub second-digit : ℕ → List ℕ → Parsed
+second-digit d [] = To d BadForm
+second-digit d (b ∷ s) = cond (is-digit b) (To (10 * d + (b - byte "0")) (body s)) (To d (body (b ∷ s)))
+
+unfoldable pub first-digit : List ℕ → Parsed
+first-digit [] = NoNode
+first-digit (b ∷ s) = cond (is-digit b) (second-digit (b - byte "0") s) NoNode
+
+unfoldable pub parse : List ℕ → Parsed
+parse [] = To 0 BadForm
+parse (b ∷ s) = cond (eqb b (byte "N")) (first-digit s) (To 0 (body (b ∷ s)))

@@ -1,0 +1,279 @@
+// The register strings: what a string asks, and of which node.
+// Which registers there are and which command takes which is said by crate `register` alone.
+ghost use mathlib.Core.Path.{_≡_};
+ghost use Prim.Native.Nat.{_<_, _≤_};
+ghost use lib.ListN.{take};
+ghost use lib.IntN.{pos, negℤ};
+ghost use Rattle.command.specs.Number.{amount, number};
+ghost use Rattle.command.specs.Parse.{sole, reading, resetting, printing, status, data-of, writing, body, second-digit, first-digit, parse};
+
+// What a string asks: T reads a register, P prints a block, R resets a register, V writes a number to a register or a byte to J.
+// A register is given by its place in the table: A is 0, J is 9.
+pub enum Asked {
+    Read(usize),
+    Print,
+    Reset(usize),
+    Write(usize, i32),
+    Status(u8),
+    BadForm,
+}
+
+// For which node, and what is asked of it. NoNode: an N with no digit.
+pub enum Parsed {
+    NoNode,
+    To(u8, Asked),
+}
+
+// The digits of a V number: its last five, without a sign.
+pub enum Amount {
+    Of(u32),
+    NoAmount,
+}
+
+// A V number, with its sign. Whether it is within a register's range is judged elsewhere.
+pub enum Number {
+    Is(i32),
+    NoNumber,
+}
+
+// Digits and points, at least one digit; the last five digits count.
+fn amount_of(s: &[u8]) -> Amount
+    ensures { λ r. ⌜ r ≡ amount (now (s .entry)) ⌝ }
+{
+    let mut n: u32 = 0;
+    let mut seen = false;
+    let mut i = 0;
+    while i < s.len() {
+        let b = s[i];
+        match b {
+            b'0'..=b'9' => {
+                n = (10 * n + digit(b - b'0')) % 100000;
+                seen = true;
+            }
+            b'.' => {}
+            _ => return Amount::NoAmount,
+        }
+        i += 1;
+    }
+    if seen {
+        Amount::Of(n)
+    } else {
+        Amount::NoAmount
+    }
+}
+
+fn digit(b: u8) -> u32
+    ensures { λ r. ⌜ r ≡ b ⌝ }
+{
+    b as u32
+}
+
+fn plus(n: u32) -> i32
+    requires { ⌜ n < 100000 ⌝ }
+    ensures { λ r. ⌜ r ≡ pos n ⌝ }
+{
+    n as i32
+}
+
+fn minus(n: u32) -> i32
+    requires { ⌜ n < 100000 ⌝ }
+    ensures { λ r. ⌜ r ≡ negℤ (pos n) ⌝ }
+{
+    0 - plus(n)
+}
+
+// A V number: an optional leading minus, and its digits.
+fn number_of(s: &[u8]) -> Number
+    ensures { λ r. ⌜ r ≡ number (now (s .entry)) ⌝ }
+{
+    if s.len() == 0 {
+        return Number::NoNumber;
+    }
+    let b = s[0];
+    match b {
+        b'-' => {
+            let a = amount_of(&s[1..]);
+            match a {
+                Amount::Of(n) => Number::Is(minus(n)),
+                Amount::NoAmount => Number::NoNumber,
+            }
+        }
+        _ => {
+            let a = amount_of(s);
+            match a {
+                Amount::Of(n) => Number::Is(plus(n)),
+                Amount::NoAmount => Number::NoNumber,
+            }
+        }
+    }
+}
+
+// The register of T and R, whose letter is all that stands there: its place, and 10 for anything else.
+fn sole_register(s: &[u8]) -> usize
+    ensures { λ r. ⌜ r ≡ sole (now (s .entry)) ⌝ }
+{
+    if s.len() != 1 {
+        return 10;
+    }
+    register::index_of(s[0])
+}
+
+// Behind T: one register.
+fn read(s: &[u8]) -> Asked
+    ensures { λ r. ⌜ r ≡ reading (now (s .entry)) ⌝ }
+{
+    let i = sole_register(s);
+    let e = register::register_at(i);
+    if e.read {
+        Asked::Read(i)
+    } else {
+        Asked::BadForm
+    }
+}
+
+// Behind R: one register.
+fn reset(s: &[u8]) -> Asked
+    ensures { λ r. ⌜ r ≡ resetting (now (s .entry)) ⌝ }
+{
+    let i = sole_register(s);
+    let e = register::register_at(i);
+    if e.reset {
+        Asked::Reset(i)
+    } else {
+        Asked::BadForm
+    }
+}
+
+// Behind P: nothing.
+fn print(s: &[u8]) -> Asked
+    ensures { λ r. ⌜ r ≡ printing (now (s .entry)) ⌝ }
+{
+    if s.len() == 0 {
+        Asked::Print
+    } else {
+        Asked::BadForm
+    }
+}
+
+// Behind VJ: one byte of 0 to 127.
+fn status(s: &[u8]) -> Asked
+    ensures { λ r. ⌜ r ≡ status (now (s .entry)) ⌝ }
+{
+    if s.len() != 1 {
+        return Asked::BadForm;
+    }
+    let b = s[0];
+    match b {
+        0..=127 => Asked::Status(b),
+        _ => Asked::BadForm,
+    }
+}
+
+// The data of V: a byte for J, else a number.
+fn data_of(i: usize, s: &[u8]) -> Asked
+    ensures { λ r. ⌜ r ≡ data-of i (now (s .entry)) ⌝ }
+{
+    if i == 9 {
+        return status(s);
+    }
+    let n = number_of(s);
+    match n {
+        Number::Is(z) => Asked::Write(i, z),
+        Number::NoNumber => Asked::BadForm,
+    }
+}
+
+// Behind V: a register and its data.
+fn write(s: &[u8]) -> Asked
+    ensures { λ r. ⌜ r ≡ writing (now (s .entry)) ⌝ }
+{
+    if s.len() == 0 {
+        return Asked::BadForm;
+    }
+    let i = register::index_of(s[0]);
+    let e = register::register_at(i);
+    if e.written {
+        data_of(i, &s[1..])
+    } else {
+        Asked::BadForm
+    }
+}
+
+// What stands behind the address: command, register, data.
+fn body(s: &[u8]) -> Asked
+    ensures { λ r. ⌜ r ≡ body (now (s .entry)) ⌝ }
+{
+    if s.len() == 0 {
+        return Asked::BadForm;
+    }
+    let b = s[0];
+    let rest = &s[1..];
+    match b {
+        b'T' => read(rest),
+        b'V' => write(rest),
+        b'R' => reset(rest),
+        b'P' => print(rest),
+        _ => Asked::BadForm,
+    }
+}
+
+// Behind N and a digit: a second digit, if one stands there.
+fn second_digit(d: u8, s: &[u8]) -> Parsed
+    requires { ⌜ d < 10 ⌝ }
+    ensures { λ r. ⌜ r ≡ second-digit d (now (s .entry)) ⌝ }
+{
+    if s.len() == 0 {
+        return Parsed::To(d, Asked::BadForm);
+    }
+    let b = s[0];
+    match b {
+        b'0'..=b'9' => {
+            let a = body(&s[1..]);
+            Parsed::To(10 * d + (b - b'0'), a)
+        }
+        _ => {
+            let a = body(s);
+            Parsed::To(d, a)
+        }
+    }
+}
+
+// Behind N: one or two digits.
+fn first_digit(s: &[u8]) -> Parsed
+    ensures { λ r. ⌜ r ≡ first-digit (now (s .entry)) ⌝ }
+{
+    if s.len() == 0 {
+        return Parsed::NoNode;
+    }
+    let b = s[0];
+    match b {
+        b'0'..=b'9' => second_digit(b - b'0', &s[1..]),
+        _ => Parsed::NoNode,
+    }
+}
+
+// A string, without the byte that ends it.
+pub fn parse(s: &[u8]) -> Parsed
+    ensures { λ r. ⌜ r ≡ parse (now (s .entry)) ⌝ }
+{
+    if s.len() == 0 {
+        return Parsed::To(0, Asked::BadForm);
+    }
+    let b = s[0];
+    match b {
+        b'N' => first_digit(&s[1..]),
+        _ => {
+            let a = body(s);
+            Parsed::To(0, a)
+        }
+    }
+}
+
+// The string that a receiver holds, where it stands: the first bytes of its room, as many as its length says.
+pub fn parse_held(held: &[u8; 32], length: usize) -> Parsed
+    requires { ⌜ length ≤ 32 ⌝ }
+    ensures { λ r. ⌜ r ≡ parse (take length (now (held .entry))) ⌝ }
+{
+    let s: &[u8] = held;
+    parse(&s[..length])
+}

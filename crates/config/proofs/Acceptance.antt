@@ -1,0 +1,109 @@
+-- What acceptance gives: the facts that the lower crates lean on. Assumes nothing.
+use mathlib.Core.Path.{_≡_, refl, sym, _∙_}
+use mathlib.Core.Bool.{Bool, true, false, not, _&&_}
+use mathlib.Core.List.{List, [], _∷_}
+use Prim.Native.Nat.{ℕ, zero, suc, _+_, _≤_, _<_}
+use native.Mathlib.Numerals.{add-one}
+use native.Mathlib.Omega.{arith}
+use lib.IntN.{ℤ, pos, natAbs}
+use lib.ListN.{length, getD, take}
+use lib.Signed.{leZ, ltZ}
+use Rattle.exact.specs.Sign.{eqZ, within}
+use Rattle.exact.specs.Tables.{steps, among}
+use Rattle.exact.proofs.Z.{both, never, from-to, turned-true}
+use Rattle.exact.proofs.Table.{among-rule}
+use Rattle.reading.specs.Reading.{inInput, inDisplay, point}
+use Rattle.reading.specs.Reading as scaling
+use Rattle.config.specs.Config.{every, rises, inUse, nodeRule, placesRule, stepRule, countRule, pointsRule, totalRule, timeBases, analogRule, rules, judged}
+use Rattle.config.specs.declared.Config.{Config}
+use Rattle.config.specs.declared.Scale.{Scale}
+use Rattle.config.specs.declared.Verdict.the-variants.{Accepted}
+use Rattle.config.proofs.Verdicts.{accepted}
+
+-- ---- the points in use, one by one
+
+pub every-at : (test : ℤ → Bool) (l : List ℤ) (n k : ℕ) → every test (take n l) ≡ true → n ≤ length l → k < n → test (point l k) ≡ true
+unfolding every
+every-at test [] n k e h i = absurd (omega arith)
+every-at test (x ∷ l) zero k e h i = absurd (omega arith)
+every-at test (x ∷ l) (suc n) zero e h i = both (test x) (every test (take n l)) e .0
+every-at test (x ∷ l) (suc n) (suc k) e h i =
+    every-at test l n k (both (test x) (every test (take n l)) e .1) (omega arith) (omega arith)
+
+pub rises-at : (l : List ℤ) (n k : ℕ) → rises (take n l) ≡ true → n ≤ length l → suc k < n → ltZ (point l k) (point l (suc k)) ≡ true
+unfolding rises
+rises-at [] n k e h i = absurd (omega arith)
+rises-at (x ∷ l) zero k e h i = absurd (omega arith)
+rises-at (x ∷ l) (suc zero) k e h i = absurd (omega arith)
+rises-at (x ∷ []) (suc (suc n)) k e h i = absurd (omega arith)
+rises-at (x ∷ y ∷ l) (suc (suc n)) zero e h i = both (ltZ x y) (rises (y ∷ take n l)) e .0
+rises-at (x ∷ y ∷ l) (suc (suc n)) (suc k) e h i =
+    rises-at (y ∷ l) (suc n) k (both (ltZ x y) (rises (y ∷ take n l)) e .1) (omega arith) (omega arith)
+
+-- ---- rule by rule
+
+module _ (c : Config) (a : judged c ≡ Accepted) where
+  rule : (k : ℕ) → k < 10 → getD (rules c) k true ≡ true
+  unfolding rules
+  rule k h = accepted c .0 a .kept k h
+
+  pub node-in : nodeRule (c .node) ≡ true
+  unfolding rules
+  node-in = rule 0 (omega arith)
+
+  pub places-in : placesRule (c .places) ≡ true
+  unfolding rules
+  places-in = rule 1 (omega arith)
+
+  pub step-in : stepRule (c .scale) ≡ true
+  unfolding rules
+  step-in = rule 2 (omega arith)
+
+  pub count-in : countRule (c .scale) ≡ true
+  unfolding rules
+  count-in = rule 3 (omega arith)
+
+  pub points-in : pointsRule (c .scale) ≡ true
+  unfolding rules
+  points-in = rule 4 (omega arith)
+
+  pub total-in : totalRule (c .totalizer) ≡ true
+  unfolding rules
+  total-in = rule 5 (omega arith)
+
+  pub analog-in : analogRule (c .analog) ≡ true
+  unfolding rules
+  analog-in = rule 9 (omega arith)
+
+  -- the scale is one that an input can be read on
+  pub scale-accepted : length (c .scale .inputs) ≡ 16 → length (c .scale .displays) ≡ 16 → scaling.Accepted (c .scale .inputs) (c .scale .displays) (natAbs (c .scale .count)) (c .scale .step)
+  unfolding pointsRule
+  scale-accepted li ld =
+      let s = c .scale in
+      let n = natAbs (s .count) in
+      let count = from-to (s .count) 2 16 count-in in
+      let p = both (every inInput (inUse s (s .inputs)) && rises (inUse s (s .inputs))) (every inDisplay (inUse s (s .displays))) points-in in
+      let q = both (every inInput (inUse s (s .inputs))) (rises (inUse s (s .inputs))) (p .0) in
+      record {
+        two = count .1 .0;
+        sixteen = count .1 .1;
+        inputs-in = λ k h. every-at inInput (s .inputs) n k (q .0) (omega arith) h;
+        displays-in = λ k h. every-at inDisplay (s .displays) n k (p .1) (omega arith) h;
+        rising = λ k h. rw (add-one k) (rises-at (s .inputs) n k (q .1) (omega arith) (omega arith));
+        step-in = among-rule (within (pos 1) (pos 100)) (s .step) steps 0 refl step-in;
+      }
+
+  -- the factor is 1 to 65,000 and the time base 1 to 86,400
+  pub factor-in : within (pos 1) (pos 65000) (c .totalizer .factor) ≡ true
+  factor-in = both (within (pos 1) (pos 65000) (c .totalizer .factor)) (among (c .totalizer .«time_base») timeBases) total-in .0
+
+  pub time-base-in : within (pos 1) (pos 86400) (c .totalizer .«time_base») ≡ true
+  time-base-in =
+      among-rule (within (pos 1) (pos 86400)) (c .totalizer .«time_base») timeBases 0 refl
+      (both (within (pos 1) (pos 65000) (c .totalizer .factor)) (among (c .totalizer .«time_base») timeBases) total-in .1)
+
+  -- the analog displays differ
+  pub analog-differs : eqZ (c .analog .low) (c .analog .high) ≡ false
+  analog-differs =
+      turned-true (eqZ (c .analog .low) (c .analog .high))
+      (both (inDisplay (c .analog .low) && inDisplay (c .analog .high)) (not (eqZ (c .analog .low) (c .analog .high))) analog-in .1)

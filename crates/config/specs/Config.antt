@@ -1,0 +1,119 @@
+-- The ten rules of a configuration, in document 01's order.
+use mathlib.Core.Bool.{Bool, true, false, cond, not, _&&_}
+use mathlib.Core.List.{List, [], _∷_}
+use Prim.Native.Nat.{ℕ, suc}
+use lib.IntN.{ℤ, pos, natAbs}
+use lib.ListN.{getD, take}
+use lib.Signed.{ltZ}
+use Rattle.exact.specs.Sign.{eqZ, within}
+use Rattle.exact.specs.Tables.{steps, among}
+use Rattle.reading.specs.Reading.{inInput, inDisplay}
+use Rattle.total.specs.declared.Totalizer.{Totalizer}
+use Rattle.alarm.specs.declared.Settings.{Settings}
+use Rattle.config.specs.declared.Places.{Places}
+use Rattle.config.specs.declared.Scale.{Scale}
+use Rattle.config.specs.declared.Analog.{Analog}
+use Rattle.config.specs.declared.Config.{Config}
+use Rattle.config.specs.declared.Verdict.{Verdict}
+use Rattle.config.specs.declared.Verdict.the-variants.{Accepted, Broken}
+
+-- ---- lists of points
+
+-- each value passes a test
+unfoldable pub every : (ℤ → Bool) → List ℤ → Bool
+every test [] = true
+every test (x ∷ xs) = test x && every test xs
+
+-- each value is below the next
+unfoldable pub rises : List ℤ → Bool
+rises [] = true
+rises (x ∷ []) = true
+rises (x ∷ y ∷ l) = ltZ x y && rises (y ∷ l)
+
+-- the points in use
+abbrev pub inUse : Scale → List ℤ → List ℤ
+inUse s l = take (natAbs (s .count)) l
+
+-- ---- the rules
+
+-- 1: node 0 to 99
+abbrev pub nodeRule : ℤ → Bool
+nodeRule node = within (pos 0) (pos 99) node
+
+-- 2: decimal places of input and of total each 0 to 4
+abbrev pub placesRule : Places → Bool
+placesRule p = within (pos 0) (pos 4) (p .input) && within (pos 0) (pos 4) (p .total)
+
+-- 3: rounding 1, 2, 5, 10, 20, 50 or 100
+abbrev pub stepRule : Scale → Bool
+stepRule s = among (s .step) steps
+
+-- 4: 2 to 16 scaling points
+abbrev pub countRule : Scale → Bool
+countRule s = within (pos 2) (pos 16) (s .count)
+
+-- 5: of the points in use, inputs -99,999 to 99,999, strictly rising, displays -19,999 to 99,999
+unfoldable pub pointsRule : Scale → Bool
+pointsRule s =
+    every inInput (inUse s (s .inputs)) && rises (inUse s (s .inputs)) && every inDisplay (inUse s (s .displays))
+
+-- 6: scale factor 1 to 65,000 thousandths, time base 1, 60, 3,600 or 86,400
+abbrev pub timeBases : List ℤ
+timeBases = pos 1 ∷ pos 60 ∷ pos 3600 ∷ pos 86400 ∷ []
+
+abbrev pub totalRule : Totalizer → Bool
+totalRule t = within (pos 1) (pos 65000) (t .factor) && among (t .«time_base») timeBases
+
+-- 7: low cut -19,999 to 99,999
+abbrev pub lowCutRule : Totalizer → Bool
+lowCutRule t = inDisplay (t .«low_cut»)
+
+-- 8: per alarm, setpoint -19,999 to 99,999, hysteresis 1 to 9,999, on delay and off delay each 0 to 32,750 tenths of a second
+abbrev pub delayIn : ℤ → Bool
+delayIn tenths = within (pos 0) (pos 32750) tenths
+
+unfoldable pub alarmRule : ℤ → Settings → Bool
+alarmRule setpoint s =
+    inDisplay setpoint && within (pos 1) (pos 9999) (s .hysteresis) && delayIn (s .«on_delay») && delayIn (s .«off_delay»)
+
+abbrev pub noSettings : Settings
+noSettings = record { hysteresis = pos 0; «on_delay» = pos 0; «off_delay» = pos 0; «low_acting» = false; latched = false }
+
+abbrev pub alarmRuleAt : List ℤ → List Settings → ℕ → Bool
+alarmRuleAt setpoints alarms i = alarmRule (getD setpoints i (pos 0)) (getD alarms i noSettings)
+
+unfoldable pub alarmsRule : List ℤ → List Settings → Bool
+alarmsRule setpoints alarms =
+    alarmRuleAt setpoints alarms 0 && alarmRuleAt setpoints alarms 1 && alarmRuleAt setpoints alarms 2 && alarmRuleAt setpoints alarms 3
+
+-- 9: capture time 0 to 32,750 tenths
+abbrev pub captureRule : ℤ → Bool
+captureRule tenths = delayIn tenths
+
+-- 10: analog low and high displays in the display range and unequal
+abbrev pub analogRule : Analog → Bool
+analogRule a = inDisplay (a .low) && inDisplay (a .high) && not (eqZ (a .low) (a .high))
+
+-- ---- the verdict
+
+unfoldable pub rules : Config → List Bool
+rules c =
+    nodeRule (c .node)
+    ∷ placesRule (c .places)
+    ∷ stepRule (c .scale)
+    ∷ countRule (c .scale)
+    ∷ pointsRule (c .scale)
+    ∷ totalRule (c .totalizer)
+    ∷ lowCutRule (c .totalizer)
+    ∷ alarmsRule (c .setpoints) (c .alarms)
+    ∷ captureRule (c .capture)
+    ∷ analogRule (c .analog)
+    ∷ []
+
+-- of rules that count from n the first that is broken is reported
+unfoldable pub firstBroken : ℕ → List Bool → Verdict
+firstBroken n [] = Accepted
+firstBroken n (kept ∷ rest) = cond kept (firstBroken (suc n) rest) (Broken n)
+
+unfoldable pub judged : Config → Verdict
+judged c = firstBroken 1 (rules c)

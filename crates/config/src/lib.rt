@@ -1,0 +1,199 @@
+// The configuration as it is given, whatever its numbers, and the ten rules that it is judged by.
+use alarm::Settings;
+use total::Totalizer;
+ghost use mathlib.Core.Path.{_≡_};
+ghost use Prim.Native.Nat.{_≤_};
+ghost use mathlib.Core.Bool.{true};
+ghost use lib.ListN.{take};
+ghost use Rattle.exact.specs.Sign.{within};
+ghost use Rattle.config.specs.Config.{every, rises, placesRule, countRule, pointsRule, totalRule, alarmRule, alarmsRule, analogRule, judged};
+
+// Decimal places of the input and of the total.
+pub struct Places {
+    pub input: i32,
+    pub total: i32,
+}
+
+// The scaling points, of which the first so many are in use, and the rounding step.
+pub struct Scale {
+    pub step: i32,
+    pub count: i32,
+    pub inputs: [i32; 16],
+    pub displays: [i32; 16],
+}
+
+// The displays at which the analog code is 0 and 4,095.
+pub struct Analog {
+    pub low: i32,
+    pub high: i32,
+}
+
+// What a block print shows.
+pub struct Print {
+    pub input: bool,
+    pub extremes: bool,
+    pub total: bool,
+    pub setpoints: bool,
+}
+
+// A configuration: every number is a signed 32-bit one, so that any value can be given and refused.
+pub struct Config {
+    pub node: i32,
+    pub places: Places,
+    pub scale: Scale,
+    pub totalizer: Totalizer,
+    pub setpoints: [i32; 4],
+    pub alarms: [Settings; 4],
+    pub capture: i32,
+    pub analog: Analog,
+    pub abbreviated: bool,
+    pub print: Print,
+}
+
+// What the rules say: all kept, or the number of the first that is broken.
+pub enum Verdict {
+    Accepted,
+    Broken(u32),
+}
+
+// Whether lo <= z <= hi.
+fn is_within(z: i32, lo: i32, hi: i32) -> bool
+    ensures { λ r. ⌜ r ≡ within lo hi z ⌝ }
+{
+    (lo <= z) & (z <= hi)
+}
+
+// Whether the first count values all lie in lo to hi.
+fn every_within(values: [i32; 16], count: usize, lo: i32, hi: i32) -> bool
+    requires { ⌜ count ≤ 16 ⌝ }
+    ensures { λ r. ⌜ r ≡ every (within lo hi) (take count values) ⌝ }
+{
+    let mut i = 0;
+    while i < count {
+        if is_within(values[i], lo, hi) {
+            i += 1;
+        } else {
+            return false;
+        }
+    }
+    true
+}
+
+// Whether each of the first count values is below the next.
+fn rises(values: [i32; 16], count: usize) -> bool
+    requires { ⌜ count ≤ 16 ⌝ }
+    ensures { λ r. ⌜ r ≡ rises (take count values) ⌝ }
+{
+    let mut i = 0;
+    while i + 1 < count {
+        if values[i] < values[i + 1] {
+            i += 1;
+        } else {
+            return false;
+        }
+    }
+    true
+}
+
+// Rule 5: of the points in use, the inputs and the displays lie in their ranges and the inputs rise.
+fn points_rule(s: Scale) -> bool
+    requires { ⌜ countRule s ≡ true ⌝ }
+    ensures { λ r. ⌜ r ≡ pointsRule s ⌝ }
+{
+    let count = s.count as usize;
+    let inputs = s.inputs;
+    let displays = s.displays;
+    let in_range = every_within(inputs, count, -99999, 99999);
+    let rising = rises(inputs, count);
+    let shown = every_within(displays, count, -19999, 99999);
+    in_range & rising & shown
+}
+
+// The time bases: a second, a minute, an hour, a day.
+const TIME_BASES: [i32; 4] = [1, 60, 3600, 86400];
+
+// Rule 6: the scale factor and the time base.
+fn total_rule(t: Totalizer) -> bool
+    ensures { λ r. ⌜ r ≡ totalRule t ⌝ }
+{
+    is_within(t.factor, 1, 65000) & exact::among(t.time_base, &TIME_BASES)
+}
+
+// Rule 8 of one alarm.
+fn alarm_rule(setpoint: i32, s: Settings) -> bool
+    ensures { λ r. ⌜ r ≡ alarmRule setpoint s ⌝ }
+{
+    let a = is_within(setpoint, -19999, 99999);
+    let b = is_within(s.hysteresis, 1, 9999);
+    let c = is_within(s.on_delay, 0, 32750);
+    let d = is_within(s.off_delay, 0, 32750);
+    a & b & c & d
+}
+
+// Rule 8.
+fn alarms_rule(setpoints: [i32; 4], alarms: [Settings; 4]) -> bool
+    ensures { λ r. ⌜ r ≡ alarmsRule setpoints alarms ⌝ }
+{
+    let a = alarm_rule(setpoints[0], alarms[0]);
+    let b = alarm_rule(setpoints[1], alarms[1]);
+    let c = alarm_rule(setpoints[2], alarms[2]);
+    let d = alarm_rule(setpoints[3], alarms[3]);
+    a & b & c & d
+}
+
+// Rule 2: the decimal places.
+fn places_rule(p: Places) -> bool
+    ensures { λ r. ⌜ r ≡ placesRule p ⌝ }
+{
+    is_within(p.input, 0, 4) & is_within(p.total, 0, 4)
+}
+
+// Rule 10: the analog displays lie in the display range and differ.
+fn analog_rule(a: Analog) -> bool
+    ensures { λ r. ⌜ r ≡ analogRule a ⌝ }
+{
+    is_within(a.low, -19999, 99999) & is_within(a.high, -19999, 99999) & (a.low != a.high)
+}
+
+// The verdict: the first broken rule is reported, and none where all are kept.
+pub fn judged(c: Config) -> Verdict
+    ensures { λ r. ⌜ r ≡ judged c ⌝ }
+{
+    let places = c.places;
+    let scale = c.scale;
+    let totalizer = c.totalizer;
+    let setpoints = c.setpoints;
+    let alarms = c.alarms;
+    let analog = c.analog;
+    if !is_within(c.node, 0, 99) {
+        return Verdict::Broken(1);
+    }
+    if !places_rule(places) {
+        return Verdict::Broken(2);
+    }
+    if !exact::is_step(scale.step) {
+        return Verdict::Broken(3);
+    }
+    if !is_within(scale.count, 2, 16) {
+        return Verdict::Broken(4);
+    }
+    if !points_rule(scale) {
+        return Verdict::Broken(5);
+    }
+    if !total_rule(totalizer) {
+        return Verdict::Broken(6);
+    }
+    if !is_within(totalizer.low_cut, -19999, 99999) {
+        return Verdict::Broken(7);
+    }
+    if !alarms_rule(setpoints, alarms) {
+        return Verdict::Broken(8);
+    }
+    if !is_within(c.capture, 0, 32750) {
+        return Verdict::Broken(9);
+    }
+    if !analog_rule(analog) {
+        return Verdict::Broken(10);
+    }
+    Verdict::Accepted
+}

@@ -1,0 +1,241 @@
+-- What the parser finds a string says by its form: at each step it finds what the form says there, or nothing, and then the form says nothing.
+use mathlib.Core.Path.{_≡_, refl, sym, ap, subst, _∙_}
+use mathlib.Core.Bool.{Bool, true, false, cond, _&&_, _||_}
+use mathlib.Core.List.{List, [], _∷_, _++_, append-assoc, append-nil}
+use mathlib.Core.Logic.{_⊎_, inl, inr, _≢_}
+use Prim.Native.Nat.{ℕ, _+_, _-_, _*_, _≤_, _<_}
+use native.Mathlib.Omega.{arith}
+use borrow.Author.Tests.{eqb-true, eqb-false, leb-true, leb-false}
+use lib.Dec.{leb, eqb}
+use lib.IntN.{ℤ, pos, negℤ}
+use lib.ListN.{length, take, drop, take-append-drop, length-drop}
+use Rattle.register.specs.Bytes.{byte}
+use Rattle.register.specs.Registers.{no-register, entry, index}
+use Rattle.command.specs.Number.{is-digit, is-point, figures, keep, digits, filled, onward, value, last, amount, number, plus, minus}
+use Rattle.command.specs.Parse.{sole, reading, resetting, printing, status, write-to, data-of, writing, body, first-digit, second-digit, parse}
+use Rattle.form.specs.Grammar as form
+use Rattle.form.specs.Grammar.{Digit, Begins-N, Begins-digit, Figures, Last-five, Worth, Counts, Numeral, Letter, Body, For}
+use Rattle.register.specs.declared.Register.{Register}
+use Rattle.command.specs.declared.Amount.{Amount}
+use Rattle.command.specs.declared.Amount.the-variants.{Of, NoAmount}
+use Rattle.command.specs.declared.Number.{Number}
+use Rattle.command.specs.declared.Number.the-variants.{Is, NoNumber}
+use Rattle.command.specs.declared.Asked.{Asked}
+use Rattle.command.specs.declared.Asked.the-variants.{Read, Reset, Status, BadForm}
+use Rattle.command.specs.declared.Parsed.{Parsed}
+use Rattle.command.specs.declared.Parsed.the-variants.{NoNode, To}
+use Rattle.register.proofs.Ranges.{never, both}
+use Rattle.register.proofs.Table.{index-of-letter}
+use Rattle.command.proofs.Digits.{last-all}
+use Rattle.form.proofs.Said.{digit-test, digit-of, nine}
+
+-- ── a V number ──
+
+figures-by : (b : ℕ) (s : List ℕ) (t u : Bool) → is-digit b ≡ t → is-point b ≡ u → (t || u) ≡ true → Figures (digits s) s → Figures (keep t (b - byte "0") (digits s)) (b ∷ s)
+figures-by b s true u e k h f = form.digit (digit-of b e) f
+figures-by b s false true e k h f = subst (λ (x : ℕ). Figures (digits s) (x ∷ s)) (sym (eqb-true b (byte ".") k)) (form.point f)
+figures-by b s false false e k h f = never h
+
+figures-found : (s : List ℕ) → figures s ≡ true → Figures (digits s) s
+figures-found [] e = form.end
+figures-found (b ∷ s) e =
+    let p = both (is-digit b || is-point b) (figures s) e in
+    figures-by b s (is-digit b) (is-point b) refl refl (p .0) (figures-found s (p .1))
+
+last-five-by : (ds : List ℕ) (t : Bool) → leb 5 (length ds) ≡ t → Last-five ds (last 5 ds)
+last-five-by ds true e =
+    let k = length ds - 5 in
+    subst (λ (l : List ℕ). Last-five l (last 5 ds)) (take-append-drop k ds)
+    (form.five (take k ds) {fs = drop k ds} (length-drop k ds ∙ omega (arith, leb-true)))
+last-five-by ds false e =
+    let h : length ds ≤ 5 = omega (arith, leb-false) in
+    subst (Last-five ds) (sym (last-all ds h)) (form.all h)
+
+last-five-found : (ds : List ℕ) → Last-five ds (last 5 ds)
+last-five-found ds = last-five-by ds (leb 5 (length ds)) refl
+
+worth-onward : {n : ℕ} {a : List ℕ} → Worth n a → (ds : List ℕ) → Worth (onward n ds) (a ++ ds)
+worth-onward {n} {a} w [] = subst (Worth n) (sym (append-nil a)) w
+worth-onward {n} {a} w (d ∷ ds) = subst (Worth (onward (10 * n + d) ds)) (append-assoc a (d ∷ []) ds) (worth-onward (form.more d w) ds)
+
+worth-found : (ds : List ℕ) → Worth (value ds) ds
+worth-found ds = worth-onward form.zero ds
+
+filled-found : (ds : List ℕ) → filled ds ≡ true → ds ≢ []
+filled-found [] e = never e
+filled-found (d ∷ ds) e = λ k. never (ap filled (sym k))
+
+-- an amount stands there, or none
+abbrev Counted : List ℕ → Amount → Type 0
+Counted s a = (a ≡ NoAmount) ⊎ ((n : ℕ) × (a ≡ Of n) × Counts n s)
+
+amount-by : (s : List ℕ) (t : Bool) → (figures s && filled (digits s)) ≡ t → Counted s (cond t (Of (value (last 5 (digits s)))) NoAmount)
+amount-by s true e =
+    let p = both (figures s) (filled (digits s)) e in
+    inr (value (last 5 (digits s)), refl, form.counts (figures-found s (p .0)) (filled-found (digits s) (p .1)) (last-five-found (digits s)) (worth-found (last 5 (digits s))))
+amount-by s false e = inl refl
+
+amount-found : (s : List ℕ) → Counted s (amount s)
+unfolding amount
+amount-found s = amount-by s (figures s && filled (digits s)) refl
+
+-- a number stands there, or none
+abbrev Numbered : List ℕ → Number → Type 0
+Numbered s n = (n ≡ NoNumber) ⊎ ((z : ℤ) × (n ≡ Is z) × Numeral z s)
+
+minus-found : (s : List ℕ) → Counted s (amount s) → Numbered (byte "-" ∷ s) (minus (amount s))
+minus-found s (inl e) = inl (ap minus e)
+minus-found s (inr r) = inr (negℤ (pos (r .0)), ap minus (r .1), form.minus (r .2))
+
+plus-found : (s : List ℕ) → Counted s (amount s) → Numbered s (plus (amount s))
+plus-found s (inl e) = inl (ap plus e)
+plus-found s (inr r) = inr (pos (r .0), ap plus (r .1), form.plain (r .2))
+
+number-by : (b : ℕ) (s : List ℕ) (t : Bool) → eqb b (byte "-") ≡ t → Numbered (b ∷ s) (cond t (minus (amount s)) (plus (amount (b ∷ s))))
+number-by b s true e =
+    subst (λ (x : ℕ). Numbered (x ∷ s) (minus (amount s))) (sym (eqb-true b (byte "-") e)) (minus-found s (amount-found s))
+number-by b s false e = plus-found (b ∷ s) (amount-found (b ∷ s))
+
+number-found : (s : List ℕ) → Numbered s (number s)
+unfolding number
+number-found [] = inl refl
+number-found (b ∷ s) = number-by b s (eqb b (byte "-")) refl
+
+-- ── command, register, data ──
+
+-- a body is a command or bad form
+abbrev pub Judged : Asked → List ℕ → Type 0
+Judged c s = (c ≡ BadForm) ⊎ Body c s
+
+-- a register that a command takes is one of the list
+taken-by : (f : Register → Bool) (l : ℕ) → f no-register ≡ false → f (entry (index l)) ≡ true → ((index l ≡ 10) ⊎ ((index l < 10) × (entry (index l) .letter ≡ l))) → Letter (index l) l
+unfolding entry
+taken-by f l g e (inl h) = never (sym g ∙ rw h at e)
+taken-by f l g e (inr h) = record { listed = h .0; letter = h .1 }
+
+taken : (f : Register → Bool) (l : ℕ) → f no-register ≡ false → f (entry (index l)) ≡ true → Letter (index l) l
+taken f l g e = taken-by f l g e (index-of-letter l)
+
+read-by : (l : ℕ) (t : Bool) → entry (index l) .read ≡ t → Judged (cond t (Read (index l)) BadForm) (byte "T" ∷ l ∷ [])
+read-by l true e = inr (form.read (taken (λ x. x .read) l refl e) e)
+read-by l false e = inl refl
+
+reset-by : (l : ℕ) (t : Bool) → entry (index l) .reset ≡ t → Judged (cond t (Reset (index l)) BadForm) (byte "R" ∷ l ∷ [])
+reset-by l true e = inr (form.reset (taken (λ x. x .reset) l refl e) e)
+reset-by l false e = inl refl
+
+status-by : (b : ℕ) (t : Bool) → leb b 127 ≡ t → Judged (cond t (Status b) BadForm) (byte "V" ∷ byte "J" ∷ b ∷ [])
+status-by b true e = inr (form.status (leb-true b 127 e))
+status-by b false e = inl refl
+
+reading-found : (s : List ℕ) → Judged (reading s) (byte "T" ∷ s)
+unfolding reading sole entry
+reading-found [] = inl refl
+reading-found (l ∷ []) = read-by l (entry (index l) .read) refl
+reading-found (l ∷ c ∷ s) = inl refl
+
+resetting-found : (s : List ℕ) → Judged (resetting s) (byte "R" ∷ s)
+unfolding resetting sole entry
+resetting-found [] = inl refl
+resetting-found (l ∷ []) = reset-by l (entry (index l) .reset) refl
+resetting-found (l ∷ c ∷ s) = inl refl
+
+printing-found : (s : List ℕ) → Judged (printing s) (byte "P" ∷ s)
+unfolding printing
+printing-found [] = inr form.print
+printing-found (b ∷ s) = inl refl
+
+status-found : (s : List ℕ) → Judged (status s) (byte "V" ∷ byte "J" ∷ s)
+unfolding status
+status-found [] = inl refl
+status-found (b ∷ []) = status-by b (leb b 127) refl
+status-found (b ∷ c ∷ s) = inl refl
+
+write-found : (r l : ℕ) (s : List ℕ) (n : Number) → Letter r l → entry r .written ≡ true → l ≢ byte "J" → Numbered s n → Judged (write-to r n) (byte "V" ∷ l ∷ s)
+write-found r l s n h v j (inl e) = inl (ap (write-to r) e)
+write-found r l s n h v j (inr q) = inr (subst (λ (c : Asked). Body c (byte "V" ∷ l ∷ s)) (ap (write-to r) (sym (q .1))) (form.write h v j (q .2)))
+
+j-nine : (l : ℕ) → l ≡ byte "J" → index l ≡ 9
+unfolding index
+j-nine l e = rw e
+
+data-by : (l : ℕ) (s : List ℕ) (t : Bool) → eqb (index l) 9 ≡ t → entry (index l) .written ≡ true → Judged (cond t (status s) (write-to (index l) (number s))) (byte "V" ∷ l ∷ s)
+data-by l s true e v =
+    subst (λ (x : ℕ). Judged (status s) (byte "V" ∷ x ∷ s)) (sym (nine (taken (λ x. x .written) l refl v) (eqb-true (index l) 9 e))) (status-found s)
+data-by l s false e v =
+    let h = taken (λ x. x .written) l refl v in
+    write-found (index l) l s (number s) h v (λ j. eqb-false (index l) 9 e (j-nine l j)) (number-found s)
+
+data-found : (l : ℕ) (s : List ℕ) → entry (index l) .written ≡ true → Judged (data-of (index l) s) (byte "V" ∷ l ∷ s)
+unfolding data-of
+data-found l s v = data-by l s (eqb (index l) 9) refl v
+
+writing-by : (l : ℕ) (s : List ℕ) (t : Bool) → entry (index l) .written ≡ t → Judged (cond t (data-of (index l) s) BadForm) (byte "V" ∷ l ∷ s)
+writing-by l s true e = data-found l s e
+writing-by l s false e = inl refl
+
+writing-found : (s : List ℕ) → Judged (writing s) (byte "V" ∷ s)
+unfolding writing
+writing-found [] = inl refl
+writing-found (l ∷ s) = writing-by l s (entry (index l) .written) refl
+
+one-of : (b k : ℕ) (c d : Asked) (s : List ℕ) (t : Bool) → eqb b k ≡ t → Judged c (k ∷ s) → Judged d (b ∷ s) → Judged (cond t c d) (b ∷ s)
+one-of b k c d s true e p q = subst (λ (x : ℕ). Judged c (x ∷ s)) (sym (eqb-true b k e)) p
+one-of b k c d s false e p q = q
+
+pub body-found : (s : List ℕ) → Judged (body s) s
+unfolding body
+body-found [] = inl refl
+body-found (b ∷ s) =
+    one-of b (byte "T") (reading s) _ s (eqb b (byte "T")) refl (reading-found s)
+    (one-of b (byte "V") (writing s) _ s (eqb b (byte "V")) refl (writing-found s)
+    (one-of b (byte "R") (resetting s) _ s (eqb b (byte "R")) refl (resetting-found s)
+    (one-of b (byte "P") (printing s) _ s (eqb b (byte "P")) refl (printing-found s)
+    (inl refl))))
+
+-- ── the address ──
+
+pub n-first : {s : List ℕ} → Begins-N s → (b : ℕ) (t : List ℕ) → s ≡ b ∷ t → b ≡ byte "N"
+n-first form.begins-n b t e = cc
+
+pub n-some : {s : List ℕ} → Begins-N s → s ≢ []
+n-some form.begins-n = λ e. let z : _≡_ {A = ℕ} 0 1 = cc in omega arith
+
+pub digit-first : {s : List ℕ} → Begins-digit s → (b : ℕ) (t : List ℕ) → s ≡ b ∷ t → is-digit b ≡ true
+digit-first (form.begins-digit {b = c} h) b t e = let k : c ≡ b = cc in subst (λ (x : ℕ). is-digit x ≡ true) k (digit-test h)
+
+pub digit-some : {s : List ℕ} → Begins-digit s → s ≢ []
+digit-some (form.begins-digit h) = λ e. let z : _≡_ {A = ℕ} 0 1 = cc in omega arith
+
+-- a string names a node or not
+abbrev pub Named : Parsed → List ℕ → Type 0
+Named p s = (p ≡ NoNode) ⊎ ((n : ℕ) × For s n)
+
+two-by : (d b c : ℕ) (s : List ℕ) (t : Bool) → is-digit c ≡ t → Digit d b → (n : ℕ) × For (byte "N" ∷ b ∷ c ∷ s) n
+two-by d b c s true e h =
+    (10 * d + (c - byte "0"), record { part = byte "N" ∷ b ∷ c ∷ []; rest = s; whole = refl; address = form.two-digits h (digit-of c e) })
+two-by d b c s false e h =
+    (d, record { part = byte "N" ∷ b ∷ []; rest = c ∷ s; whole = refl; address = form.one-digit h (λ g. never (sym e ∙ digit-first g c s refl)) })
+
+pub two-for : (d b : ℕ) (s : List ℕ) → Digit d b → (n : ℕ) × For (byte "N" ∷ b ∷ s) n
+two-for d b [] h = (d, record { part = byte "N" ∷ b ∷ []; rest = []; whole = refl; address = form.one-digit h (λ g. digit-some g refl) })
+two-for d b (c ∷ s) h = two-by d b c s (is-digit c) refl h
+
+first-by : (b : ℕ) (s : List ℕ) (t : Bool) → is-digit b ≡ t → Named (cond t (second-digit (b - byte "0") s) NoNode) (byte "N" ∷ b ∷ s)
+first-by b s true e = inr (two-for (b - byte "0") b s (digit-of b e))
+first-by b s false e = inl refl
+
+first-found : (s : List ℕ) → Named (first-digit s) (byte "N" ∷ s)
+unfolding first-digit
+first-found [] = inl refl
+first-found (b ∷ s) = first-by b s (is-digit b) refl
+
+parse-by : (b : ℕ) (s : List ℕ) (t : Bool) → eqb b (byte "N") ≡ t → Named (cond t (first-digit s) (To 0 (body (b ∷ s)))) (b ∷ s)
+parse-by b s true e = subst (λ (x : ℕ). Named (first-digit s) (x ∷ s)) (sym (eqb-true b (byte "N") e)) (first-found s)
+parse-by b s false e =
+    inr (0, record { part = []; rest = b ∷ s; whole = refl; address = form.no-n (λ g. eqb-false b (byte "N") e (n-first g b s refl)) })
+
+pub address-found : (s : List ℕ) → Named (parse s) s
+unfolding parse
+address-found [] = inr (0, record { part = []; rest = []; whole = refl; address = form.no-n (λ g. n-some g refl) })
+address-found (b ∷ s) = parse-by b s (eqb b (byte "N")) refl

@@ -1,0 +1,6 @@
+pub mod Said
+pub mod Found
+pub mod Meaning
+pub mod Permitted
+pub mod Understood
+pub mod Cases

@@ -1,0 +1,131 @@
+-- What a string says by its form the parser finds.
+use mathlib.Core.Path.{_≡_, refl, sym, ap, subst, _∙_}
+use mathlib.Core.Bool.{Bool, true, false}
+use mathlib.Core.List.{List, [], _∷_, _++_}
+use mathlib.Core.Logic.{_≢_}
+use Prim.Native.Nat.{ℕ, _+_, _-_, _*_, _≤_}
+use native.Mathlib.Omega.{arith}
+use borrow.Author.Tests.{ne-eqb, le-leb}
+use lib.IntN.{ℤ}
+use Rattle.register.specs.Bytes.{byte}
+use Rattle.register.specs.Registers.{entry, index}
+use Rattle.command.specs.Number.{is-digit, figures, digits, filled, value, last, amount, number, plus}
+use Rattle.command.specs.Parse.{sole, reading, resetting, printing, status, data-of, writing, body, first-digit, second-digit, parse}
+use Rattle.form.specs.Grammar as form
+use Rattle.form.specs.Grammar.{Digit, Begins-N, Begins-digit, Address, Figures, Last-five, Worth, Counts, Numeral, Letter, Body}
+use Rattle.command.specs.declared.Amount.the-variants.{Of}
+use Rattle.command.specs.declared.Number.the-variants.{Is}
+use Rattle.command.specs.declared.Asked.{Asked}
+use Rattle.command.specs.declared.Asked.the-variants.{Read, Reset, Write, Status}
+use Rattle.command.specs.declared.Parsed.the-variants.{To}
+use Rattle.register.proofs.Ranges.{in-range, range}
+use Rattle.register.proofs.Table.{ruled, letter-index}
+use Rattle.command.proofs.Digits.{value-more, last-end, last-all}
+
+-- ── digits ──
+
+pub digit-test : {d b : ℕ} → Digit d b → is-digit b ≡ true
+digit-test {d} {b} h = in-range (byte "0") (byte "9") b (omega arith) (omega arith)
+
+pub digit-value : {d b : ℕ} → Digit d b → b - byte "0" ≡ d
+digit-value h = omega arith
+
+pub digit-of : (b : ℕ) → is-digit b ≡ true → Digit (b - byte "0") b
+digit-of b e = let h = range (byte "0") (byte "9") b e in record { to-nine = omega arith; is = omega arith }
+
+-- ── a V number ──
+
+figures-said : {ds s : List ℕ} → Figures ds s → (figures s ≡ true) × (digits s ≡ ds)
+figures-said form.end = (refl, refl)
+figures-said (form.point f) = figures-said f
+figures-said (form.digit h f) =
+    let r = figures-said f in
+    (rw (digit-test h) (r .0), rw (digit-test h, digit-value h, r .1))
+
+filled-some : (ds : List ℕ) → ds ≢ [] → filled ds ≡ true
+filled-some [] h = absurd (h refl)
+filled-some (d ∷ ds) h = refl
+
+last-five-said : {ds fs : List ℕ} → Last-five ds fs → last 5 ds ≡ fs
+last-five-said (form.all {ds} h) = last-all ds h
+last-five-said (form.five before {fs} h) = last-end before fs h
+
+worth-said : {n : ℕ} {ds : List ℕ} → Worth n ds → value ds ≡ n
+worth-said form.zero = refl
+worth-said (form.more {ds = ds} d w) = value-more ds d ∙ ap (λ (m : ℕ). 10 * m + d) (worth-said w)
+
+counts-said : {n : ℕ} {s : List ℕ} → Counts n s → amount s ≡ Of n
+unfolding amount
+counts-said (form.counts {ds = ds} {s = s} f h l w) =
+    let r = figures-said f in
+    rw (r .0, r .1, filled-some ds h, last-five-said l, worth-said w)
+
+plain-first : {ds s : List ℕ} → Figures ds s → ds ≢ [] → number s ≡ plus (amount s)
+unfolding number
+plain-first form.end h = absurd (h refl)
+plain-first (form.point f) h = refl
+plain-first (form.digit {d} {b} g f) h = rw (ne-eqb b (byte "-") (λ e. omega arith))
+
+plain-said : {n : ℕ} {s : List ℕ} → Counts n s → number s ≡ plus (amount s)
+plain-said (form.counts f h l w) = plain-first f h
+
+pub numeral-said : {z : ℤ} {s : List ℕ} → Numeral z s → number s ≡ Is z
+unfolding number
+numeral-said (form.plain c) = plain-said c ∙ ap plus (counts-said c)
+numeral-said (form.minus c) = rw (counts-said c)
+
+-- ── command, register, data ──
+
+pub index-said : {r l : ℕ} → Letter r l → index l ≡ r
+index-said {r} h = ap index (sym (h .letter)) ∙ letter-index r (h .listed)
+
+-- register 9 is J
+pub nine : {r l : ℕ} → Letter r l → r ≡ 9 → l ≡ byte "J"
+nine {r} h e = sym (h .letter) ∙ ruled r (h .listed) .letter ∙ omega arith
+
+read-said : {r l : ℕ} → Letter r l → entry r .read ≡ true → reading (l ∷ []) ≡ Read r
+unfolding reading sole
+read-said h e = rw (index-said h, e)
+
+reset-said : {r l : ℕ} → Letter r l → entry r .reset ≡ true → resetting (l ∷ []) ≡ Reset r
+unfolding resetting sole
+reset-said h e = rw (index-said h, e)
+
+write-said : {r l : ℕ} {z : ℤ} {s : List ℕ} → Letter r l → entry r .written ≡ true → l ≢ byte "J" → Numeral z s → writing (l ∷ s) ≡ Write r z
+unfolding writing data-of
+write-said {r} h e j n = rw (index-said h, e, ne-eqb r 9 (λ i. j (nine h i)), numeral-said n)
+
+status-said : {b : ℕ} → b ≤ 127 → writing (byte "J" ∷ b ∷ []) ≡ Status b
+unfolding writing data-of status index entry
+status-said {b} h = rw (le-leb b 127 h)
+
+pub body-said : {a : Asked} {s : List ℕ} → Body a s → body s ≡ a
+unfolding body printing
+body-said (form.read h e) = read-said h e
+body-said (form.reset h e) = reset-said h e
+body-said form.print = refl
+body-said (form.write h e j n) = write-said h e j n
+body-said (form.status h) = status-said h
+
+-- ── the address, read as it stands ──
+
+no-n-said : (rest : List ℕ) → (Begins-N rest → ⊥) → parse rest ≡ To 0 (body rest)
+unfolding parse body
+no-n-said [] h = refl
+no-n-said (b ∷ s) h = rw (ne-eqb b (byte "N") (λ e. h (subst (λ (x : ℕ). Begins-N (x ∷ s)) (sym e) form.begins-n)))
+
+second-by : (d b : ℕ) (s : List ℕ) (t : Bool) → is-digit b ≡ t → (Begins-digit (b ∷ s) → ⊥) → second-digit d (b ∷ s) ≡ To d (body (b ∷ s))
+unfolding second-digit
+second-by d b s true e h = absurd (h (form.begins-digit (digit-of b e)))
+second-by d b s false e h = rw e
+
+one-said : (d : ℕ) (rest : List ℕ) → (Begins-digit rest → ⊥) → second-digit d rest ≡ To d (body rest)
+unfolding second-digit body
+one-said d [] h = refl
+one-said d (b ∷ s) h = second-by d b s (is-digit b) refl h
+
+pub address-said : {n : ℕ} {part rest : List ℕ} → Address n part rest → parse (part ++ rest) ≡ To n (body rest)
+unfolding parse first-digit second-digit
+address-said (form.no-n {rest} h) = no-n-said rest h
+address-said (form.one-digit {d} {b} {rest} g h) = rw (digit-test g, digit-value g) (one-said d rest h)
+address-said (form.two-digits g h) = rw (digit-test g, digit-test h, digit-value g, digit-value h)

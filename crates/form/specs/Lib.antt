@@ -1,0 +1,4 @@
+pub mod Grammar
+pub mod Change
+pub mod Understood
+pub mod Cases

@@ -1,0 +1,3 @@
+pub mod Hearing
+pub mod Beginning
+pub mod Receives

@@ -1,0 +1,2 @@
+pub mod Receiver
+pub mod Since

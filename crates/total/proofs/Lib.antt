@@ -1,0 +1,4 @@
+pub mod Sums
+pub mod Laws
+pub mod History
+pub mod Cases
