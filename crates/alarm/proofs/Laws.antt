@@ -1,5 +1,5 @@
 -- What makes the definition of an alarm believed. Assumes nothing.
-use mathlib.Core.Path.{_≡_, refl, sym, ap, _∙_}
+use mathlib.Core.Path.{_≡_, refl, ap, _∙_}
 use mathlib.Core.Bool.{Bool, true, false, cond, not}
 use mathlib.Core.List.{List, [], _∷_}
 use Prim.Native.Nat.{ℕ, zero, suc, _+_, _≤_, _<_}
@@ -24,20 +24,25 @@ use Rattle.alarm.specs.Cases.{after}
 -- ---- one sample
 
 module _ (s : Settings) (a : Alarm) (r : Reading) where
+  -- the run says what becomes of the alarm
+  by-run : (b : Bool) (u : Run) → awaited s a r ≡ b → counted (a .run) b (samples (delay s a)) ≡ u → sampled s a r ≡ moved a u
+  unfolding sampled
+  by-run b u w e = ap (λ (t : Bool). moved a (counted (a .run) t (samples (delay s a)))) w ∙ ap (moved a) e
+
   -- where the awaited condition holds and the run stays below its count, the run grows by one
   pub grows : awaited s a r ≡ true → a .run + 1 < samples (delay s a) → sampled s a r ≡ alarm (a .setpoint) (a .on) (a .run + 1)
-  unfolding sampled moved
-  grows w h = ap (λ (b : Bool). moved a (counted (a .run) b (samples (delay s a)))) w ∙ ap (moved a) (runs.grows (a .run) (samples (delay s a)) h)
+  unfolding moved
+  grows w h = by-run true (Going (a .run + 1)) w (runs.grows (a .run) (samples (delay s a)) h)
 
   -- at the count the state changes and the run is 0
   pub changes : awaited s a r ≡ true → samples (delay s a) ≤ a .run + 1 → sampled s a r ≡ alarm (a .setpoint) (not (a .on)) 0
-  unfolding sampled moved
-  changes w h = ap (λ (b : Bool). moved a (counted (a .run) b (samples (delay s a)))) w ∙ ap (moved a) (runs.completes (a .run) (samples (delay s a)) h)
+  unfolding moved
+  changes w h = by-run true Complete w (runs.completes (a .run) (samples (delay s a)) h)
 
   -- any other sample makes the run 0 and leaves the state
   pub breaks : awaited s a r ≡ false → sampled s a r ≡ alarm (a .setpoint) (a .on) 0
-  unfolding sampled moved
-  breaks w = ap (λ (b : Bool). moved a (counted (a .run) b (samples (delay s a)))) w ∙ ap (moved a) (runs.breaks (a .run) (samples (delay s a)))
+  unfolding moved
+  breaks w = by-run false Broken w (runs.breaks (a .run) (samples (delay s a)))
 
 -- no sample changes the setpoint
 pub setpoint-stays : (s : Settings) (a : Alarm) (r : Reading) → (sampled s a r) .setpoint ≡ a .setpoint
@@ -107,7 +112,7 @@ latched-through s a (r ∷ rs) o l = latched-through s (sampled s a r) rs (ap (�
 -- the present value changes nothing
 pub same-setpoint : (a : Alarm) → written a (a .setpoint) ≡ a
 unfolding written
-same-setpoint a = ap (λ (t : Bool). cond t a (alarm (a .setpoint) (a .on) 0)) (eqZ-refl (a .setpoint))
+same-setpoint a = rw (eqZ-refl (a .setpoint))
 
 -- a new value makes the run 0 and leaves the state
 pub new-setpoint : (a : Alarm) (z : ℤ) → (z ≡ a .setpoint → ⊥) → written a z ≡ alarm z (a .on) 0

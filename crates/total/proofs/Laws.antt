@@ -4,7 +4,7 @@ use mathlib.Core.Bool.{Bool, true, false, cond, not, _&&_}
 use native.Mathlib.Nat.{zero-div}
 use lib.IntN.{ℤ, pos, _+ℤ_, _*ℤ_, +ℤ-idr}
 use lib.Signed.{leZ, ltZ}
-use Rattle.exact.specs.Sign.{minus, within}
+use Rattle.exact.specs.Sign.{minus}
 use Rattle.exact.specs.Exact.{cut}
 use Rattle.exact.specs.Meaning.{IsCut}
 use Rattle.exact.proofs.Z.{never, both, not-lt, le-not-lt, lt-not-le}
@@ -15,7 +15,7 @@ use Rattle.total.specs.declared.Totalizer.{Totalizer}
 use Rattle.total.specs.declared.Range.{Range}
 use Rattle.total.specs.declared.Range.the-variants.{Within, Under, Over}
 use Rattle.total.specs.declared.Total.{Total}
-use Rattle.total.specs.Total.{Accepted, Kept, total, reset, left, unitOf, quotient, summed, added, sampleAdds, batchAdds, sampled, batched, shown}
+use Rattle.total.specs.Total.{Accepted, Kept, total, reset, inTotal, left, unitOf, quotient, summed, added, sampleAdds, batchAdds, sampled, batched, shown}
 use Rattle.total.proofs.Sums.{unit-some}
 
 -- ---- what is shown
@@ -52,7 +52,7 @@ module _ (s : Totalizer) (old new : ℤ) where
   goes-under e f = rw (e, f)
 
   -- in the range the new sum is taken
-  pub stays-within : within (minus 199999999) (pos 999999999) (quotient s new) ≡ true → summed s old new ≡ total new Within
+  pub stays-within : inTotal (quotient s new) ≡ true → summed s old new ≡ total new Within
   unfolding summed
   stays-within e =
       let p = both (leZ (minus 199999999) (quotient s new)) (leZ (quotient s new) (pos 999999999)) e in
@@ -60,11 +60,11 @@ module _ (s : Totalizer) (old new : ℤ) where
 
 -- ---- the outcomes of an addition
 
-in-range : (q : ℤ) → ltZ (pos 999999999) q ≡ false → ltZ q (minus 199999999) ≡ false → within (minus 199999999) (pos 999999999) q ≡ true
+in-range : (q : ℤ) → ltZ (pos 999999999) q ≡ false → ltZ q (minus 199999999) ≡ false → inTotal q ≡ true
 in-range q e f = rw (not-lt q (minus 199999999) f, not-lt (pos 999999999) q e)
 
 module _ (s : Totalizer) (P : Total → Type 0) where
-  by-range : (y : ℤ) (g : Range) (x : ℤ) → (left g ≡ true → P (total y g)) → (left g ≡ false → P (total y Over)) → (left g ≡ false → P (total y Under)) → (left g ≡ false → within (minus 199999999) (pos 999999999) (quotient s (y +ℤ x)) ≡ true → P (total (y +ℤ x) Within)) → P (added s (total y g) x)
+  by-range : (y : ℤ) (g : Range) (x : ℤ) → (left g ≡ true → P (total y g)) → (left g ≡ false → P (total y Over)) → (left g ≡ false → P (total y Under)) → (left g ≡ false → inTotal (quotient s (y +ℤ x)) ≡ true → P (total (y +ℤ x) Within)) → P (added s (total y g) x)
   unfolding added summed
   by-range y Within x f o u w = go (ltZ (pos 999999999) (quotient s (y +ℤ x))) (ltZ (quotient s (y +ℤ x)) (minus 199999999)) refl refl
     where
@@ -77,7 +77,7 @@ module _ (s : Totalizer) (P : Total → Type 0) where
 
   -- what holds of each outcome holds of x added: the total as it was where it had left its range, else Over or Under with the
   -- sum as it was, or the sum with x in range
-  pub by-outcome : (t : Total) (x : ℤ) → (left (t .range) ≡ true → P t) → (left (t .range) ≡ false → P (total (t .sum) Over)) → (left (t .range) ≡ false → P (total (t .sum) Under)) → (left (t .range) ≡ false → within (minus 199999999) (pos 999999999) (quotient s (t .sum +ℤ x)) ≡ true → P (total (t .sum +ℤ x) Within)) → P (added s t x)
+  pub by-outcome : (t : Total) (x : ℤ) → (left (t .range) ≡ true → P t) → (left (t .range) ≡ false → P (total (t .sum) Over)) → (left (t .range) ≡ false → P (total (t .sum) Under)) → (left (t .range) ≡ false → inTotal (quotient s (t .sum +ℤ x)) ≡ true → P (total (t .sum +ℤ x) Within)) → P (added s t x)
   by-outcome t x = by-range (t .sum) (t .range) x
 
 -- ---- `Kept` is kept

@@ -1,4 +1,5 @@
 pub mod Sums
+pub mod Bounds
 pub mod Laws
 pub mod History
 pub mod Cases

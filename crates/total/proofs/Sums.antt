@@ -7,6 +7,8 @@ use lib.Dec.{lit<}
 use lib.IntN.{ℤ, pos, natAbs, _+ℤ_, _*ℤ_}
 use mir.Syntax.{w32, w64}
 use mir.Val.{SFits, toZ, ofZ}
+use mathlib.Core.Bool.{false}
+use Rattle.exact.specs.Sign.{isNeg}
 use Rattle.exact.specs.Exact.{Divisor}
 use Rattle.exact.proofs.Z.{abs-fits, abs-add-le, abs-mul-le, fits-abs, widened, is-pos, from-to, between-is}
 use Rattle.exact.proofs.Meaning.{abs-cut}
@@ -17,21 +19,24 @@ use Rattle.total.specs.Total.{Accepted, Kept, unitOf, quotient}
 -- ---- the unit, 20,000 × time base
 
 module _ (s : Totalizer) (a : Accepted s) where
+  base : (isNeg (s .«time_base») ≡ false) × ((1 ≤ natAbs (s .«time_base»)) × (natAbs (s .«time_base») ≤ 86400))
+  base = from-to (s .«time_base») 1 86400 (a .base-in)
+
   pub base-fits : SFits w32 (s .«time_base»)
-  base-fits = abs-fits _ (omega (arith, from-to (s .«time_base») 1 86400 (a .base-in) .1 .1))
+  base-fits = abs-fits _ (omega (arith, base .1 .1))
 
   -- the product of the code
   pub unit-is : pos 20000 *ℤ s .«time_base» ≡ pos (unitOf s)
   unfolding unitOf
-  unit-is = ap (λ (z : ℤ). pos 20000 *ℤ z) (is-pos (s .«time_base») (from-to (s .«time_base») 1 86400 (a .base-in) .0))
+  unit-is = ap (λ (z : ℤ). pos 20000 *ℤ z) (is-pos (s .«time_base») (base .0))
 
   pub unit-some : 0 < unitOf s
   unfolding unitOf
-  unit-some = omega (arith, from-to (s .«time_base») 1 86400 (a .base-in) .1 .0)
+  unit-some = omega (arith, base .1 .0)
 
   pub unit-le : unitOf s ≤ 1728000000
   unfolding unitOf
-  unit-le = omega (arith, from-to (s .«time_base») 1 86400 (a .base-in) .1 .1)
+  unit-le = omega (arith, base .1 .1)
 
   pub unit-fits : SFits w64 (pos (unitOf s))
   unit-fits = abs-fits _ (omega (arith, unit-le))

@@ -13,6 +13,7 @@ use Rattle.total.specs.declared.Range.{Range}
 use Rattle.total.specs.declared.Range.the-variants.{Within, Under, Over}
 use Rattle.total.specs.declared.Total.{Total}
 
+-- a sum, with where the total stands
 abbrev pub total : ℤ → Range → Total
 total sum range = record { sum = sum; range = range }
 
@@ -27,7 +28,11 @@ unitOf s = 20000 * natAbs (s .«time_base»)
 unfoldable pub quotient : Totalizer → ℤ → ℤ
 quotient s sum = cut sum (unitOf s)
 
--- the total that would be shown of a new sum: in -199,999,999 to 999,999,999 the sum is taken, outside it stays as it was
+-- the range of the total, -199,999,999 to 999,999,999
+abbrev pub inTotal : ℤ → Bool
+inTotal q = within (minus 199999999) (pos 999999999) q
+
+-- a new sum is taken while its total stays in range; where the total would leave, it is Over or Under and the sum stays as it was before
 unfoldable pub summed : Totalizer → ℤ → ℤ → Total
 summed s old new =
     cond (ltZ (pos 999999999) (quotient s new)) (total old Over)
@@ -44,24 +49,25 @@ left Over = true
 unfoldable pub added : Totalizer → Total → ℤ → Total
 added s t x = cond (left (t .range)) t (summed s (t .sum) (t .sum +ℤ x))
 
--- outside batch, a sample with a number not below the low cut
+-- a sample counts outside batch, with a number not below the low cut
 abbrev pub counts : Totalizer → ℤ → Bool
 counts s v = not (s .batch) && leZ (s .«low_cut») v
 
--- adds reading × factor in thousandths
+-- a sample that counts adds reading × factor in thousandths
 unfoldable pub sampleAdds : Totalizer → Reading → ℤ
 sampleAdds s Nothing = pos 0
 sampleAdds s ReadingUnder = pos 0
 sampleAdds s (Number v) = cond (counts s v) (v *ℤ s .factor) (pos 0)
 sampleAdds s ReadingOver = pos 0
 
--- in batch, key 1 adds reading × 20,000 × time base, without factor or low cut
+-- key 1 in batch adds reading × 20,000 × time base, without factor or low cut
 unfoldable pub batchAdds : Totalizer → Reading → ℤ
 batchAdds s Nothing = pos 0
 batchAdds s ReadingUnder = pos 0
 batchAdds s (Number v) = v *ℤ pos (unitOf s)
 batchAdds s ReadingOver = pos 0
 
+-- the total after a sample, and after key 1 in batch
 abbrev pub sampled : Totalizer → Total → Reading → Total
 sampled s t r = added s t (sampleAdds s r)
 
@@ -83,6 +89,6 @@ shown s t = shownAs (t .range) (quotient s (t .sum))
 pub record Accepted (s : Totalizer) : Type 0 where
   pub base-in : within (pos 1) (pos 86400) (s .«time_base») ≡ true
 
--- the sum of a total is one whose quotient lies in the total's range
+-- the sum of a total, Over or Under too, is one whose quotient lies in the range
 pub record Kept (s : Totalizer) (t : Total) : Type 0 where
-  pub in-range : within (minus 199999999) (pos 999999999) (quotient s (t .sum)) ≡ true
+  pub in-range : inTotal (quotient s (t .sum)) ≡ true
