@@ -12,33 +12,13 @@ use Rattle.exact.specs.Sign.{eqZ, within}
 use Rattle.exact.specs.Tables.{steps, among}
 use Rattle.exact.proofs.Z.{both, never, from-to, turned-true}
 use Rattle.exact.proofs.Table.{among-rule}
-use Rattle.reading.specs.Reading.{inInput, inDisplay, point}
+use Rattle.reading.specs.Reading.{inDisplay}
 use Rattle.reading.specs.Reading as scaling
-use Rattle.config.specs.Config.{every, rises, inUse, nodeRule, placesRule, stepRule, countRule, pointsRule, totalRule, timeBases, analogRule, rules, judged}
+use Rattle.reading.proofs.Scale as scale
+use Rattle.config.specs.Config.{nodeRule, placesRule, stepRule, countRule, pointsRule, totalRule, timeBases, analogRule, rules, judged}
 use Rattle.config.specs.declared.Config.{Config}
-use Rattle.config.specs.declared.Scale.{Scale}
 use Rattle.config.specs.declared.Verdict.the-variants.{Accepted}
 use Rattle.config.proofs.Verdicts.{accepted}
-
--- ---- the points in use, one by one
-
-pub every-at : (test : ℤ → Bool) (l : List ℤ) (n k : ℕ) → every test (take n l) ≡ true → n ≤ length l → k < n → test (point l k) ≡ true
-unfolding every
-every-at test [] n k e h i = absurd (omega arith)
-every-at test (x ∷ l) zero k e h i = absurd (omega arith)
-every-at test (x ∷ l) (suc n) zero e h i = both (test x) (every test (take n l)) e .0
-every-at test (x ∷ l) (suc n) (suc k) e h i =
-    every-at test l n k (both (test x) (every test (take n l)) e .1) (omega arith) (omega arith)
-
-pub rises-at : (l : List ℤ) (n k : ℕ) → rises (take n l) ≡ true → n ≤ length l → suc k < n → ltZ (point l k) (point l (suc k)) ≡ true
-unfolding rises
-rises-at [] n k e h i = absurd (omega arith)
-rises-at (x ∷ l) zero k e h i = absurd (omega arith)
-rises-at (x ∷ l) (suc zero) k e h i = absurd (omega arith)
-rises-at (x ∷ []) (suc (suc n)) k e h i = absurd (omega arith)
-rises-at (x ∷ y ∷ l) (suc (suc n)) zero e h i = both (ltZ x y) (rises (y ∷ take n l)) e .0
-rises-at (x ∷ y ∷ l) (suc (suc n)) (suc k) e h i =
-    rises-at (y ∷ l) (suc n) k (both (ltZ x y) (rises (y ∷ take n l)) e .1) (omega arith) (omega arith)
 
 -- ---- rule by rule
 
@@ -76,22 +56,12 @@ module _ (c : Config) (a : judged c ≡ Accepted) where
   analog-in = rule 9 (omega arith)
 
   -- the scale is one that an input can be read on
-  pub scale-accepted : length (c .scale .inputs) ≡ 16 → length (c .scale .displays) ≡ 16 → scaling.Accepted (c .scale .inputs) (c .scale .displays) (natAbs (c .scale .count)) (c .scale .step)
-  unfolding pointsRule
-  scale-accepted li ld =
+  pub scale-accepted : scaling.Accepted (c .scale .inputs) (c .scale .displays) (natAbs (c .scale .count)) (c .scale .step)
+  scale-accepted =
       let s = c .scale in
-      let n = natAbs (s .count) in
       let count = from-to (s .count) 2 16 count-in in
-      let p = both (every inInput (inUse s (s .inputs)) && rises (inUse s (s .inputs))) (every inDisplay (inUse s (s .displays))) points-in in
-      let q = both (every inInput (inUse s (s .inputs))) (rises (inUse s (s .inputs))) (p .0) in
-      record {
-        two = count .1 .0;
-        sixteen = count .1 .1;
-        inputs-in = λ k h. every-at inInput (s .inputs) n k (q .0) (omega arith) h;
-        displays-in = λ k h. every-at inDisplay (s .displays) n k (p .1) (omega arith) h;
-        rising = λ k h. rw (add-one k) (rises-at (s .inputs) n k (q .1) (omega arith) (omega arith));
-        step-in = among-rule (within (pos 1) (pos 100)) (s .step) steps 0 refl step-in;
-      }
+      scale.accepted (s .inputs) (s .displays) (natAbs (s .count)) (s .step) (count .1 .0) (count .1 .1) points-in
+      (among-rule (within (pos 1) (pos 100)) (s .step) steps 0 refl step-in)
 
   -- the factor is 1 to 65,000 and the time base 1 to 86,400
   pub factor-in : within (pos 1) (pos 65000) (c .totalizer .factor) ≡ true

@@ -3,11 +3,10 @@ use mathlib.Core.Bool.{Bool, true, false, cond, not, _&&_}
 use mathlib.Core.List.{List, [], _∷_}
 use Prim.Native.Nat.{ℕ, suc}
 use lib.IntN.{ℤ, pos, natAbs}
-use lib.ListN.{getD, take}
-use lib.Signed.{ltZ}
+use lib.ListN.{getD}
 use Rattle.exact.specs.Sign.{eqZ, within}
 use Rattle.exact.specs.Tables.{steps, among}
-use Rattle.reading.specs.Reading.{inInput, inDisplay}
+use Rattle.reading.specs.Reading.{inDisplay, pointsIn}
 use Rattle.total.specs.declared.Totalizer.{Totalizer}
 use Rattle.alarm.specs.declared.Settings.{Settings}
 use Rattle.config.specs.declared.Places.{Places}
@@ -16,23 +15,6 @@ use Rattle.config.specs.declared.Analog.{Analog}
 use Rattle.config.specs.declared.Config.{Config}
 use Rattle.config.specs.declared.Verdict.{Verdict}
 use Rattle.config.specs.declared.Verdict.the-variants.{Accepted, Broken}
-
--- ---- lists of points
-
--- each value passes a test
-unfoldable pub every : (ℤ → Bool) → List ℤ → Bool
-every test [] = true
-every test (x ∷ xs) = test x && every test xs
-
--- each value is below the next
-unfoldable pub rises : List ℤ → Bool
-rises [] = true
-rises (x ∷ []) = true
-rises (x ∷ y ∷ l) = ltZ x y && rises (y ∷ l)
-
--- the points in use
-abbrev pub inUse : Scale → List ℤ → List ℤ
-inUse s l = take (natAbs (s .count)) l
 
 -- ---- the rules
 
@@ -53,9 +35,8 @@ abbrev pub countRule : Scale → Bool
 countRule s = within (pos 2) (pos 16) (s .count)
 
 -- 5: of the points in use, inputs -99,999 to 99,999, strictly rising, displays -19,999 to 99,999
-unfoldable pub pointsRule : Scale → Bool
-pointsRule s =
-    every inInput (inUse s (s .inputs)) && rises (inUse s (s .inputs)) && every inDisplay (inUse s (s .displays))
+abbrev pub pointsRule : Scale → Bool
+pointsRule s = pointsIn (s .inputs) (s .displays) (natAbs (s .count))
 
 -- 6: scale factor 1 to 65,000 thousandths, time base 1, 60, 3,600 or 86,400
 abbrev pub timeBases : List ℤ

@@ -2,11 +2,9 @@
 use alarm::Settings;
 use total::Totalizer;
 ghost use mathlib.Core.Path.{_≡_};
-ghost use Prim.Native.Nat.{_≤_};
 ghost use mathlib.Core.Bool.{true};
-ghost use lib.ListN.{take};
 ghost use Rattle.exact.specs.Sign.{within};
-ghost use Rattle.config.specs.Config.{every, rises, placesRule, countRule, pointsRule, totalRule, alarmRule, alarmsRule, analogRule, judged};
+ghost use Rattle.config.specs.Config.{placesRule, countRule, pointsRule, totalRule, alarmRule, alarmsRule, analogRule, judged};
 
 // Decimal places of the input and of the total.
 pub struct Places {
@@ -63,50 +61,13 @@ fn is_within(z: i32, lo: i32, hi: i32) -> bool
     (lo <= z) & (z <= hi)
 }
 
-// Whether the first count values all lie in lo to hi.
-fn every_within(values: [i32; 16], count: usize, lo: i32, hi: i32) -> bool
-    requires { ⌜ count ≤ 16 ⌝ }
-    ensures { λ r. ⌜ r ≡ every (within lo hi) (take count values) ⌝ }
-{
-    let mut i = 0;
-    while i < count {
-        if is_within(values[i], lo, hi) {
-            i += 1;
-        } else {
-            return false;
-        }
-    }
-    true
-}
-
-// Whether each of the first count values is below the next.
-fn rises(values: [i32; 16], count: usize) -> bool
-    requires { ⌜ count ≤ 16 ⌝ }
-    ensures { λ r. ⌜ r ≡ rises (take count values) ⌝ }
-{
-    let mut i = 0;
-    while i + 1 < count {
-        if values[i] < values[i + 1] {
-            i += 1;
-        } else {
-            return false;
-        }
-    }
-    true
-}
-
-// Rule 5: of the points in use, the inputs and the displays lie in their ranges and the inputs rise.
+// Rule 5: the points in use.
 fn points_rule(s: Scale) -> bool
     requires { ⌜ countRule s ≡ true ⌝ }
     ensures { λ r. ⌜ r ≡ pointsRule s ⌝ }
 {
     let count = s.count as usize;
-    let inputs = s.inputs;
-    let displays = s.displays;
-    let in_range = every_within(inputs, count, -99999, 99999);
-    let rising = rises(inputs, count);
-    let shown = every_within(displays, count, -19999, 99999);
-    in_range & rising & shown
+    reading::points_in(&s.inputs, &s.displays, count)
 }
 
 // The time bases: a second, a minute, an hour, a day.

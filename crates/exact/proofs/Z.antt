@@ -124,6 +124,13 @@ pub both : (t u : Bool) → (t && u) ≡ true → (t ≡ true) × (u ≡ true)
 both true u e = (refl, e)
 both false u e = never e
 
+pub and-false : (t : Bool) → (t && false) ≡ false
+and-false true = refl
+and-false false = refl
+
+pub false-and : {t : Bool} (u : Bool) → t ≡ false → (t && u) ≡ false
+false-and u e = rw e
+
 -- a test that is turned round
 pub turned-true : (t : Bool) → not t ≡ true → t ≡ false
 turned-true true e = never e

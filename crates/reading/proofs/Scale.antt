@@ -2,14 +2,16 @@
 use mathlib.Core.Path.{_≡_}
 use mathlib.Core.Bool.{true}
 use mathlib.Core.List.{List}
-use Prim.Native.Nat.{ℕ, _+_, _<_}
+use Prim.Native.Nat.{ℕ, _+_, _≤_, _<_}
 use native.Mathlib.Omega.{arith}
-use lib.IntN.{ℤ}
+use lib.IntN.{ℤ, pos}
+use Rattle.exact.specs.Sign.{within}
 use Rattle.exact.specs.Exact.{Fraction}
 use Rattle.exact.proofs.Z.{from-to}
-use Rattle.reading.specs.Reading.{inInput, point, segment, lineOf, Points, Accepted}
+use Rattle.reading.specs.Reading.{inInput, point, segment, lineOf, pointsIn, Points, Accepted}
 use Rattle.reading.proofs.Search.{segment-le}
 use Rattle.reading.proofs.Fit.{line-small}
+use Rattle.reading.proofs.Walk.{input-at, display-at, rises-at}
 
 module _ (inputs displays : List ℤ) (count : ℕ) (step : ℤ) (a : Accepted inputs displays count step) where
   pub right-there : (x : ℤ) → segment inputs count x + 1 < count
@@ -36,3 +38,15 @@ module _ (inputs displays : List ℤ) (count : ℕ) (step : ℤ) (a : Accepted i
         small = line-small _ _ _ _ _ (points x k h i);
         narrow = omega arith;
       }
+
+-- what the rules of a configuration give: rule 5 of 2 to 16 points and a step of 1 to 100
+pub accepted : (inputs displays : List ℤ) (count : ℕ) (step : ℤ) → 2 ≤ count → count ≤ 16 → pointsIn inputs displays count ≡ true → within (pos 1) (pos 100) step ≡ true → Accepted inputs displays count step
+accepted inputs displays count step two sixteen e s =
+    record {
+      two = two;
+      sixteen = sixteen;
+      inputs-in = input-at inputs displays count e;
+      displays-in = display-at inputs displays count e;
+      rising = rises-at inputs displays count e;
+      step-in = s;
+    }

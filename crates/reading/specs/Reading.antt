@@ -1,6 +1,6 @@
 -- From input to reading, as document 01 has it.
 use mathlib.Core.Path.{_≡_}
-use mathlib.Core.Bool.{Bool, true, cond}
+use mathlib.Core.Bool.{Bool, true, cond, _&&_}
 use mathlib.Core.List.{List}
 use Prim.Native.Nat.{ℕ, zero, suc, _+_, _-_, _≤_, _<_}
 use lib.ListN.{getD}
@@ -68,6 +68,22 @@ displayable Nothing = true
 displayable Under = true
 displayable (Number v) = inDisplay v
 displayable Over = true
+
+-- ---- rule 5 of a configuration: of the points in use, inputs -99,999 to 99,999, strictly rising, displays -19,999 to 99,999
+
+-- a test passes at each of the first n places
+unfoldable pub upTo : (ℕ → Bool) → ℕ → Bool
+upTo test zero = true
+upTo test (suc n) = upTo test n && test n
+
+abbrev pub pointIn : List ℤ → List ℤ → ℕ → Bool
+pointIn inputs displays k = inInput (point inputs k) && inDisplay (point displays k)
+
+abbrev pub risesAt : List ℤ → ℕ → Bool
+risesAt inputs k = ltZ (point inputs k) (point inputs (k + 1))
+
+unfoldable pub pointsIn : List ℤ → List ℤ → ℕ → Bool
+pointsIn inputs displays count = upTo (pointIn inputs displays) count && upTo (risesAt inputs) (count - 1)
 
 -- ---- what the arithmetic leans on
 

@@ -1,7 +1,8 @@
 // From an input to a reading.
 ghost use mathlib.Core.Path.{_≡_};
-ghost use Prim.Native.Nat.{_≤_};
-ghost use Rattle.reading.specs.Reading.{segment, line, judged, readingOf, Points, Accepted};
+ghost use mathlib.Core.Bool.{_&&_};
+ghost use Prim.Native.Nat.{_≤_, _<_};
+ghost use Rattle.reading.specs.Reading.{inInput, inDisplay, segment, line, judged, readingOf, upTo, pointIn, risesAt, pointsIn, Points, Accepted};
 
 // A reading: nothing before the first sample, a number, or beyond the display range.
 pub enum Reading {
@@ -80,4 +81,51 @@ pub fn reading_of<'a>(
         input,
     );
     judged(exact::to_step(whole, step as i64))
+}
+
+// Whether an input and a display lie in their ranges.
+fn point_in(input: i32, display: i32) -> bool
+    ensures { λ r. ⌜ r ≡ inInput input && inDisplay display ⌝ }
+{
+    (-99999 <= input) & (input <= 99999) & ((-19999 <= display) & (display <= 99999))
+}
+
+// Whether the first count points all lie in their ranges.
+fn every_point_in<'a>(inputs: &'a [i32; 16], displays: &'a [i32; 16], count: usize) -> bool
+    requires { ⌜ count ≤ 16 ⌝ }
+    ensures { λ r. ⌜ r ≡ upTo (pointIn (now (inputs .entry)) (now (displays .entry))) count ⌝ }
+{
+    let mut i = 0;
+    while i < count {
+        if point_in(inputs[i], displays[i]) {
+            i += 1;
+        } else {
+            return false;
+        }
+    }
+    true
+}
+
+// Whether each of the first so many inputs is below the next.
+fn rises(inputs: &[i32; 16], steps: usize) -> bool
+    requires { ⌜ steps < 16 ⌝ }
+    ensures { λ r. ⌜ r ≡ upTo (risesAt (now (inputs .entry))) steps ⌝ }
+{
+    let mut i = 0;
+    while i < steps {
+        if inputs[i] < inputs[i + 1] {
+            i += 1;
+        } else {
+            return false;
+        }
+    }
+    true
+}
+
+// Rule 5 of a configuration, of the points in use.
+pub fn points_in<'a>(inputs: &'a [i32; 16], displays: &'a [i32; 16], count: usize) -> bool
+    requires { ⌜ (2 ≤ count) × (count ≤ 16) ⌝ }
+    ensures { λ r. ⌜ r ≡ pointsIn (now (inputs .entry)) (now (displays .entry)) count ⌝ }
+{
+    every_point_in(inputs, displays, count) & rises(inputs, count - 1)
 }
