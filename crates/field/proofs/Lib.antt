@@ -1,0 +1,5 @@
+pub mod Digits
+pub mod Right
+pub mod Number
+pub mod Length
+pub mod Back
