@@ -3,7 +3,6 @@ use alarm::Settings;
 use total::Totalizer;
 ghost use mathlib.Core.Path.{_≡_};
 ghost use mathlib.Core.Bool.{true};
-ghost use Rattle.exact.specs.Sign.{within};
 ghost use Rattle.config.specs.Config.{placesRule, countRule, pointsRule, totalRule, alarmRule, alarmsRule, analogRule, judged};
 
 // Decimal places of the input and of the total.
@@ -54,13 +53,6 @@ pub enum Verdict {
     Broken(u32),
 }
 
-// Whether lo <= z <= hi.
-fn is_within(z: i32, lo: i32, hi: i32) -> bool
-    ensures { λ r. ⌜ r ≡ within lo hi z ⌝ }
-{
-    (lo <= z) & (z <= hi)
-}
-
 // Rule 5: the points in use.
 fn points_rule(s: Scale) -> bool
     requires { ⌜ countRule s ≡ true ⌝ }
@@ -77,17 +69,17 @@ const TIME_BASES: [i32; 4] = [1, 60, 3600, 86400];
 fn total_rule(t: Totalizer) -> bool
     ensures { λ r. ⌜ r ≡ totalRule t ⌝ }
 {
-    is_within(t.factor, 1, 65000) & exact::among(t.time_base, &TIME_BASES)
+    exact::is_within(t.factor, 1, 65000) & exact::among(t.time_base, &TIME_BASES)
 }
 
 // Rule 8 of one alarm.
 fn alarm_rule(setpoint: i32, s: Settings) -> bool
     ensures { λ r. ⌜ r ≡ alarmRule setpoint s ⌝ }
 {
-    let a = is_within(setpoint, -19999, 99999);
-    let b = is_within(s.hysteresis, 1, 9999);
-    let c = is_within(s.on_delay, 0, 32750);
-    let d = is_within(s.off_delay, 0, 32750);
+    let a = exact::is_within(setpoint, -19999, 99999);
+    let b = exact::is_within(s.hysteresis, 1, 9999);
+    let c = exact::is_within(s.on_delay, 0, 32750);
+    let d = exact::is_within(s.off_delay, 0, 32750);
     a & b & c & d
 }
 
@@ -103,17 +95,19 @@ fn alarms_rule(setpoints: [i32; 4], alarms: [Settings; 4]) -> bool
 }
 
 // Rule 2: the decimal places.
-fn places_rule(p: Places) -> bool
+pub fn places_rule(p: Places) -> bool
     ensures { λ r. ⌜ r ≡ placesRule p ⌝ }
 {
-    is_within(p.input, 0, 4) & is_within(p.total, 0, 4)
+    exact::is_within(p.input, 0, 4) & exact::is_within(p.total, 0, 4)
 }
 
 // Rule 10: the analog displays lie in the display range and differ.
 fn analog_rule(a: Analog) -> bool
     ensures { λ r. ⌜ r ≡ analogRule a ⌝ }
 {
-    is_within(a.low, -19999, 99999) & is_within(a.high, -19999, 99999) & (a.low != a.high)
+    exact::is_within(a.low, -19999, 99999)
+        & exact::is_within(a.high, -19999, 99999)
+        & (a.low != a.high)
 }
 
 // The verdict: the first broken rule is reported, and none where all are kept.
@@ -126,7 +120,7 @@ pub fn judged(c: Config) -> Verdict
     let setpoints = c.setpoints;
     let alarms = c.alarms;
     let analog = c.analog;
-    if !is_within(c.node, 0, 99) {
+    if !exact::is_within(c.node, 0, 99) {
         return Verdict::Broken(1);
     }
     if !places_rule(places) {
@@ -135,7 +129,7 @@ pub fn judged(c: Config) -> Verdict
     if !exact::is_step(scale.step) {
         return Verdict::Broken(3);
     }
-    if !is_within(scale.count, 2, 16) {
+    if !exact::is_within(scale.count, 2, 16) {
         return Verdict::Broken(4);
     }
     if !points_rule(scale) {
@@ -144,13 +138,13 @@ pub fn judged(c: Config) -> Verdict
     if !total_rule(totalizer) {
         return Verdict::Broken(6);
     }
-    if !is_within(totalizer.low_cut, -19999, 99999) {
+    if !exact::is_within(totalizer.low_cut, -19999, 99999) {
         return Verdict::Broken(7);
     }
     if !alarms_rule(setpoints, alarms) {
         return Verdict::Broken(8);
     }
-    if !is_within(c.capture, 0, 32750) {
+    if !exact::is_within(c.capture, 0, 32750) {
         return Verdict::Broken(9);
     }
     if !analog_rule(analog) {

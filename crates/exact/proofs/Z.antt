@@ -225,6 +225,10 @@ eqZ-true (pos a) (negsuc b) e = never e
 eqZ-true (negsuc a) (pos b) e = never e
 eqZ-true (negsuc a) (negsuc b) e = ap negsuc (eqb-true a b e)
 
+-- numbers of the same bits are the same
+pub same-bits : (a b : ℤ) → SFits w32 a → SFits w32 b → ofZ w32 a ≡ ofZ w32 b → a ≡ b
+same-bits a b f g e = eqZ-true a b (sym (eq32 a b f g) ∙ eq-eqb (ofZ w32 a) (ofZ w32 b) e)
+
 pub eqZ-refl : (a : ℤ) → eqZ a a ≡ true
 eqZ-refl (pos n) = eq-eqb n n refl
 eqZ-refl (negsuc n) = eq-eqb n n refl

@@ -2,6 +2,7 @@
 ghost use mathlib.Core.Path.{_≡_};
 ghost use Prim.Native.Nat.{_≤_, _<_, _^_};
 ghost use lib.IntN.{natAbs};
+ghost use Rattle.exact.specs.Sign.{within};
 ghost use Rattle.exact.specs.Exact.{Divisor, Fraction, nearest, toStep, cut, floor};
 ghost use Rattle.exact.specs.Tables.{steps, among};
 
@@ -39,6 +40,13 @@ pub fn floor(n: i64, d: i64) -> i64
     ensures { λ r. ⌜ r ≡ floor n (natAbs d) ⌝ }
 {
     if n < 0 { (n + 1) / d - 1 } else { n / d }
+}
+
+// Whether lo <= z <= hi.
+pub fn is_within(z: i32, lo: i32, hi: i32) -> bool
+    ensures { λ r. ⌜ r ≡ within lo hi z ⌝ }
+{
+    (lo <= z) & (z <= hi)
 }
 
 // Whether n stands in a table.

@@ -13,7 +13,7 @@ pub enum Reading {
 }
 
 // The first segment whose right end is not below the input, the last one where none is. Segment k runs from point k to point k + 1.
-pub fn segment(inputs: &[i32; 16], count: usize, input: i32) -> usize
+fn segment(inputs: &[i32; 16], count: usize, input: i32) -> usize
     requires { ⌜ (2 ≤ count) × (count ≤ 16) ⌝ }
     ensures { λ r. ⌜ r ≡ segment (now (inputs .entry)) count input ⌝ }
 {
@@ -32,7 +32,7 @@ pub fn segment(inputs: &[i32; 16], count: usize, input: i32) -> usize
 }
 
 // The line through (x0, y0) and (x1, y1) at x, as one exact fraction rounded to the nearest whole number.
-pub fn line(x0: i32, y0: i32, x1: i32, y1: i32, x: i32) -> i64
+fn line(x0: i32, y0: i32, x1: i32, y1: i32, x: i32) -> i64
     requires { ⌜ Points x0 y0 x1 y1 x ⌝ }
     ensures { λ r. ⌜ r ≡ line x0 y0 x1 y1 x ⌝ }
 {
@@ -43,7 +43,7 @@ pub fn line(x0: i32, y0: i32, x1: i32, y1: i32, x: i32) -> i64
 }
 
 // What a result reads: a number where the display range holds it.
-pub fn judged(v: i64) -> Reading
+fn judged(v: i64) -> Reading
     ensures { λ r. ⌜ r ≡ judged v ⌝ }
 {
     if v > 99999 {

@@ -1,0 +1,17 @@
+-- The worked cases, all of them by one computation. Assumes nothing.
+use mathlib.Core.Path.{_≡_, refl}
+use mathlib.Core.List.{map}
+use Rattle.exact.specs.Exact.{cut, floor}
+use Rattle.run.specs.Run.{samples, counted}
+use Rattle.total.specs.Total as totals
+use Rattle.extremes.specs.Extremes as extremes
+use Rattle.alarm.specs.Alarm as alarms
+use Rattle.analog.specs.Analog.{floorBy, held, codeOf}
+use Rattle.instrument.specs.Instrument.{coded, resetRegister, writeRegister, writeStatus}
+use Rattle.instrument.specs.Shown.{status, shownAt}
+use Rattle.instrument.specs.Cases.{changed, after, cases, outcome, expected}
+
+-- each case shows what it says
+pub cases-hold : map outcome cases ≡ map expected cases
+unfolding cut floor samples counted totals.unitOf totals.quotient totals.summed totals.added totals.sampleAdds totals.batchAdds totals.shown extremes.beyond extremes.moved extremes.compared extremes.sampled extremes.reset extremes.shown alarms.above alarms.below alarms.atMost alarms.atLeast alarms.onCondition alarms.offCondition alarms.awaited alarms.delay alarms.moved alarms.sampled alarms.reset alarms.written alarms.allSampled floorBy held codeOf coded resetRegister writeRegister writeStatus status shownAt changed after cases
+cases-hold = refl

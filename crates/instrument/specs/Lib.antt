@@ -1,0 +1,5 @@
+pub mod Instrument
+pub mod Shown
+pub mod Sound
+pub mod Meaning
+pub mod Cases

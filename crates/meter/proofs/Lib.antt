@@ -1,0 +1,4 @@
+pub mod Started
+pub mod Shows
+pub mod StaysSound
+pub mod Answers

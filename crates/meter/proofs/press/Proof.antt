@@ -1,0 +1,98 @@
+-- `meter::press` meets its contract: the key's number decides. Assumes nothing.
+use borrow.Author.Needs.{needs}
+use mathlib.Core.Path.{_≡_, refl, sym, _∙_}
+use mathlib.Core.Bool.{false}
+use Prim.Native.Nat.{ℕ}
+use borrow.Author.Tests.{ne-eqb}
+use lib.IntN.{pos}
+use mir.Syntax.{w32}
+use mir.Val.{SFits, ofZ}
+use mir.Facts.{sfits-lit}
+use Rattle.exact.specs.Sign.{eqZ}
+use Rattle.exact.proofs.Z.{eq32, same-bits}
+use Rattle.instrument.specs.Instrument.{resetRegister}
+use Rattle.meter.proofs.press.Statement.{statement}
+use Rattle.meter.proofs.press.Tie as tie
+
+-- the number that a key's bits say
+is : (s : tie.Start) (k : ℕ) → SFits w32 (pos k) → ofZ w32 (s .args .number) ≡ ofZ w32 (pos k) → s .args .number ≡ pos k
+is s k f e = same-bits (s .args .number) (pos k) (s .fits .number) f e
+
+-- and that it does not say
+other : (s : tie.Start) (k : ℕ) → SFits w32 (pos k) → (ofZ w32 (s .args .number) ≡ ofZ w32 (pos k) → ⊥) → eqZ (s .args .number) (pos k) ≡ false
+other s k f h = sym (eq32 (s .args .number) (pos k) (s .fits .number) f) ∙ ne-eqb _ _ h
+
+batch-key-requires : tie.Need-batch-key-requires
+batch-key-requires c κs = c .before .before .pre
+
+reset-key-requires : tie.Need-reset-key-requires
+reset-key-requires c κs = search needs
+
+reset-key-requires-2 : tie.Need-reset-key-requires-2
+reset-key-requires-2 c κs = search needs
+
+reset-key-requires-3 : tie.Need-reset-key-requires-3
+reset-key-requires-3 c κs = search needs
+
+alarms-key-requires : tie.Need-alarms-key-requires
+alarms-key-requires c κs = search needs
+
+print-requires : tie.Need-print-requires
+print-requires c κs = c .before .before .before .pre
+
+returns : tie.Need-returns
+returns c = rw (is (c .before .before .before) 1 (sfits-lit tt) (c .before .match .keys1)) (c .batch-key .ensures, refl)
+
+returns-2 : tie.Need-returns-2
+unfolding resetRegister
+returns-2 c = rw (is (c .before .before .before) 2 (sfits-lit tt) (c .before .match .keys2)) (c .reset-key .ensures, refl)
+
+returns-3 : tie.Need-returns-3
+unfolding resetRegister
+returns-3 c = rw (is (c .before .before .before) 3 (sfits-lit tt) (c .before .match .keys3)) (c .reset-key2 .ensures, refl)
+
+returns-4 : tie.Need-returns-4
+unfolding resetRegister
+returns-4 c = rw (is (c .before .before .before) 4 (sfits-lit tt) (c .before .match .keys4)) (c .reset-key3 .ensures, refl)
+
+returns-5 : tie.Need-returns-5
+returns-5 c = rw (is (c .before .before .before) 5 (sfits-lit tt) (c .before .match .keys5)) (c .alarms-key .ensures, refl)
+
+same-length : tie.Need-same-length
+same-length c = search needs
+
+returns-6 : tie.Need-returns-6
+returns-6 c = rw (is (c .before .before .before .before .before .before) 6 (sfits-lit tt) (c .before .before .before .before .match .keys6)) (c .before .before .print .ensures)
+
+returns-7 : tie.Need-returns-7
+returns-7 c =
+    let s = c .before .before in
+    let r = c .match .rest in
+    rw (
+      other s 1 (sfits-lit tt) (r .0 .0 .0 .0 .0 .1),
+      other s 2 (sfits-lit tt) (r .0 .0 .0 .0 .1),
+      other s 3 (sfits-lit tt) (r .0 .0 .0 .1),
+      other s 4 (sfits-lit tt) (r .0 .0 .1),
+      other s 5 (sfits-lit tt) (r .0 .1),
+      other s 6 (sfits-lit tt) (r .1),
+    )
+    (refl, refl)
+
+pub press-spec : {M : Type 1} → statement M
+press-spec =
+    tie.close
+    (tie.spec
+    batch-key-requires
+    reset-key-requires
+    reset-key-requires-2
+    reset-key-requires-3
+    alarms-key-requires
+    print-requires
+    returns
+    returns-2
+    returns-3
+    returns-4
+    returns-5
+    same-length
+    returns-6
+    returns-7)

@@ -1,0 +1,4 @@
+pub mod Answer
+pub mod Sound
+pub mod Meter
+pub mod Promises

@@ -1,0 +1,605 @@
+// The meter: a configuration, the instrument and the receiver, and the four calls that answer every configuration, sample, key and
+// byte. Nothing is left to the caller to check first.
+use alarm::Alarm;
+use alarm::Settings;
+use block::Options;
+use block::Values;
+use command::Asked;
+use command::Parsed;
+use config::Analog;
+use config::Config;
+use config::Places;
+use config::Print;
+use config::Scale;
+use config::Verdict;
+use instrument::Instrument;
+use instrument::Permit;
+use line::Style;
+use line::Written;
+use receiver::Kind;
+use receiver::Receiver;
+use total::Totalizer;
+ghost use mathlib.Core.Path.{_≡_};
+ghost use mathlib.Core.Bool.{true};
+ghost use Prim.Native.Nat.{_≤_};
+ghost use lib.IntN.{natAbs};
+ghost use Rattle.total.specs.Total as totals;
+ghost use Rattle.config.specs.Config.{nodeRule, placesRule};
+ghost use Rattle.form.specs.Understood.{Permitted};
+ghost use Rattle.instrument.specs.Instrument.{permit, resetRegister, resetAlarms, writeStatus};
+ghost use Rattle.instrument.specs.Instrument as instruments;
+ghost use Rattle.receiver.specs.Receiver.{kind};
+ghost use Rattle.meter.specs.Sound.{canShow, canScale, canDivide, soundConfig, sound};
+ghost use Rattle.meter.specs.Meter.{noConfig, fresh, withInstrument, emptied, answerOf, replied, style, options, setpoints, values, readReply, printReply, writeOutcome, changed, outcome, carried, ended, byKind, received, batchOutcome, pressed, keyed, poweredUp, sampled};
+
+// The numbered answers of document 01.
+pub enum Answer {
+    Done,
+    Stored,
+    Replied(usize),
+    OtherNode,
+    BadForm,
+    Dropped,
+    TooLong,
+    OutOfRange,
+    InAutomatic,
+    NoRoom,
+    UnknownKey,
+    Refused(u32),
+    NotStarted,
+}
+
+pub struct Meter {
+    pub config: Config,
+    pub instrument: Instrument,
+    pub receiver: Receiver,
+}
+
+// What a call gives back: its answer, and the meter afterwards.
+pub struct Outcome {
+    pub answer: Answer,
+    pub meter: Meter,
+}
+
+// ---- which meters are started
+
+// A node and decimal places that a line can show.
+fn can_show(node: i32, places: Places) -> bool
+    ensures { λ r. ⌜ r ≡ canShow node places ⌝ }
+{
+    exact::is_within(node, 0, 99) & config::places_rule(places)
+}
+
+// A scale that an input can be read on. The points are judged where their number is one that can be.
+fn can_scale(s: Scale) -> bool
+    ensures { λ r. ⌜ r ≡ canScale s ⌝ }
+{
+    let step_in = exact::is_within(s.step, 1, 100);
+    if exact::is_within(s.count, 2, 16) {
+        let count = s.count as usize;
+        step_in & reading::points_in(&s.inputs, &s.displays, count)
+    } else {
+        false
+    }
+}
+
+// A time base to divide by, and analog displays that differ.
+fn can_divide(t: Totalizer, a: Analog) -> bool
+    ensures { λ r. ⌜ r ≡ canDivide t a ⌝ }
+{
+    exact::is_within(t.time_base, 1, 86400) & (a.low != a.high)
+}
+
+// What the arithmetic leans on of a configuration.
+fn config_sound(c: Config) -> bool
+    ensures { λ r. ⌜ r ≡ soundConfig c ⌝ }
+{
+    let places = c.places;
+    let scale = c.scale;
+    let totalizer = c.totalizer;
+    let analog = c.analog;
+    can_show(c.node, places) & can_scale(scale) & can_divide(totalizer, analog)
+}
+
+// Whether a meter value is a meter that was started.
+fn is_sound(m: Meter) -> bool
+    ensures { λ r. ⌜ r ≡ sound m ⌝ }
+{
+    let config = m.config;
+    let totalizer = config.totalizer;
+    let instrument = m.instrument;
+    if config_sound(config) {
+        instrument::is_sound(totalizer, instrument)
+    } else {
+        false
+    }
+}
+
+// ---- parts
+
+fn with_instrument(m: Meter, i: Instrument) -> Meter
+    ensures { λ r. ⌜ r ≡ withInstrument m i ⌝ }
+{
+    let mut n = m;
+    n.instrument = i;
+    n
+}
+
+// The receiver emptied, and all else as it is.
+fn emptied(m: Meter) -> Meter
+    ensures { λ r. ⌜ r ≡ emptied m ⌝ }
+{
+    let mut n = m;
+    n.receiver = receiver::emptied(m.receiver);
+    n
+}
+
+// ---- replies
+
+fn answer_of(written: Written) -> Answer
+    ensures { λ r. ⌜ r ≡ answerOf written ⌝ }
+{
+    match written {
+        Written::Bytes(n) => Answer::Replied(n),
+        Written::NoRoom => Answer::NoRoom,
+    }
+}
+
+// The node as the byte that lines and addresses have it.
+fn own_node(node: i32) -> u8
+    requires { ⌜ nodeRule node ≡ true ⌝ }
+    ensures { λ r. ⌜ r ≡ natAbs node ⌝ }
+{
+    node as u8
+}
+
+fn style(node: i32, abbreviated: bool) -> Style
+    requires { ⌜ nodeRule node ≡ true ⌝ }
+    ensures { λ r. ⌜ r ≡ style node abbreviated ⌝ }
+{
+    Style {
+        node: own_node(node),
+        abbreviated,
+    }
+}
+
+fn options(p: Print) -> Options
+    ensures { λ r. ⌜ r ≡ options p ⌝ }
+{
+    Options {
+        input: p.input,
+        total: p.total,
+        extremes: p.extremes,
+        setpoints: p.setpoints,
+    }
+}
+
+fn setpoints_of(alarms: [Alarm; 4]) -> [i32; 4]
+    ensures { λ r. ⌜ r ≡ setpoints alarms ⌝ }
+{
+    let a = alarms[0];
+    let b = alarms[1];
+    let c = alarms[2];
+    let d = alarms[3];
+    [a.setpoint, b.setpoint, c.setpoint, d.setpoint]
+}
+
+// What a block shows.
+fn values(places: Places, totalizer: Totalizer, i: Instrument) -> Values
+    requires { ⌜ placesRule places ≡ true ⌝ }
+    requires { ⌜ totals.Accepted totalizer ⌝ }
+    requires { ⌜ totals.Kept totalizer (i .total) ⌝ }
+    ensures { λ r. ⌜ r ≡ values places totalizer i ⌝ }
+{
+    let shown = block::Places {
+        input: instrument::places_at(places, 0),
+        total: instrument::places_at(places, 1),
+    };
+    let input = instrument::shown_at(totalizer, i, 0);
+    let total = instrument::shown_at(totalizer, i, 1);
+    let max = instrument::shown_at(totalizer, i, 2);
+    let min = instrument::shown_at(totalizer, i, 3);
+    let alarms = i.alarms;
+    let setpoints = setpoints_of(alarms);
+    Values {
+        places: shown,
+        input,
+        total,
+        max,
+        min,
+        setpoints,
+    }
+}
+
+// T: the line of one register.
+fn read(m: Meter, register: usize, buffer: &mut [u8], place: usize) -> Outcome
+    requires { ⌜ sound m ≡ true ⌝ }
+    requires { ⌜ register ≤ 9 ⌝ }
+    ensures { λ r. ⌜ r ≡ replied m (readReply (m .config) (m .instrument) register) (now (buffer .entry)) place .outcome ⌝ }
+    ensures { λ _. ⌜ now (buffer .exit) ≡ replied m (readReply (m .config) (m .instrument) register) (now (buffer .entry)) place .buffer ⌝ }
+{
+    let config = m.config;
+    let i = m.instrument;
+    let totalizer = config.totalizer;
+    let all = config.places;
+    let style = style(config.node, config.abbreviated);
+    let places = instrument::places_at(all, register);
+    let shown = instrument::shown_at(totalizer, i, register);
+    let written = line::write_line(buffer, place, style, register, places, shown);
+    Outcome {
+        answer: answer_of(written),
+        meter: m,
+    }
+}
+
+// P and key 6: the block.
+fn print(m: Meter, buffer: &mut [u8], place: usize) -> Outcome
+    requires { ⌜ sound m ≡ true ⌝ }
+    ensures { λ r. ⌜ r ≡ replied m (printReply (m .config) (m .instrument)) (now (buffer .entry)) place .outcome ⌝ }
+    ensures { λ _. ⌜ now (buffer .exit) ≡ replied m (printReply (m .config) (m .instrument)) (now (buffer .entry)) place .buffer ⌝ }
+{
+    let config = m.config;
+    let i = m.instrument;
+    let totalizer = config.totalizer;
+    let all = config.places;
+    let chosen = config.print;
+    let style = style(config.node, config.abbreviated);
+    let options = options(chosen);
+    let values = values(all, totalizer, i);
+    let written = block::write_block(buffer, place, style, options, values);
+    Outcome {
+        answer: answer_of(written),
+        meter: m,
+    }
+}
+
+// ---- a string that has ended
+
+// V of a number.
+fn write(m: Meter, register: usize, z: i32) -> Outcome
+    requires { ⌜ (4 ≤ register) × (register ≤ 8) ⌝ }
+    ensures { λ r. ⌜ r ≡ writeOutcome m register z (permit (m .instrument .mode) register z) ⌝ }
+{
+    let n = emptied(m);
+    let i = m.instrument;
+    let mode = i.mode;
+    let permit = instrument::permitted(mode, register, z);
+    match permit {
+        Permit::Allowed => {
+            let changed = instrument::write_register(i, register, z);
+            Outcome {
+                answer: Answer::Done,
+                meter: with_instrument(n, changed),
+            }
+        }
+        Permit::OutOfRange => Outcome {
+            answer: Answer::OutOfRange,
+            meter: n,
+        },
+        Permit::InAutomatic => Outcome {
+            answer: Answer::InAutomatic,
+            meter: n,
+        },
+    }
+}
+
+// R of a register.
+fn reset(m: Meter, register: usize) -> Outcome
+    requires { ⌜ (1 ≤ register) × (register ≤ 7) ⌝ }
+    ensures { λ r. ⌜ r ≡ outcome Answer.Done (changed m (resetRegister (m .instrument) register)) ⌝ }
+{
+    let n = emptied(m);
+    let i = instrument::reset_register(m.instrument, register);
+    Outcome {
+        answer: Answer::Done,
+        meter: with_instrument(n, i),
+    }
+}
+
+// VJ.
+fn status(m: Meter, b: u8) -> Outcome
+    requires { ⌜ sound m ≡ true ⌝ }
+    ensures { λ r. ⌜ r ≡ outcome Answer.Done (changed m (writeStatus (m .config .analog) (m .instrument) b)) ⌝ }
+{
+    let n = emptied(m);
+    let config = m.config;
+    let i = instrument::write_status(config.analog, m.instrument, b);
+    Outcome {
+        answer: Answer::Done,
+        meter: with_instrument(n, i),
+    }
+}
+
+// What is asked of this meter is carried out.
+fn carry_out(m: Meter, asked: Asked, buffer: &mut [u8], place: usize) -> Outcome
+    requires { ⌜ sound m ≡ true ⌝ }
+    requires { ⌜ Permitted asked ⌝ }
+    ensures { λ r. ⌜ r ≡ carried m asked (now (buffer .entry)) place .outcome ⌝ }
+    ensures { λ _. ⌜ now (buffer .exit) ≡ carried m asked (now (buffer .entry)) place .buffer ⌝ }
+{
+    match asked {
+        Asked::Read(register) => read(emptied(m), register, buffer, place),
+        Asked::Print => print(emptied(m), buffer, place),
+        Asked::Reset(register) => reset(m, register),
+        Asked::Write(register, z) => write(m, register, z),
+        Asked::Status(b) => status(m, b),
+        Asked::BadForm => Outcome {
+            answer: Answer::BadForm,
+            meter: emptied(m),
+        },
+    }
+}
+
+// `*` or `$`: too long, then the address, then what is asked.
+fn end(m: Meter, buffer: &mut [u8], place: usize) -> Outcome
+    requires { ⌜ sound m ≡ true ⌝ }
+    ensures { λ r. ⌜ r ≡ ended m (now (buffer .entry)) place .outcome ⌝ }
+    ensures { λ _. ⌜ now (buffer .exit) ≡ ended m (now (buffer .entry)) place .buffer ⌝ }
+{
+    let held = m.receiver;
+    let length = held.length;
+    if receiver::is_over(length) {
+        return Outcome {
+            answer: Answer::TooLong,
+            meter: emptied(m),
+        };
+    }
+    let parsed = command::parse_held(&held.bytes, length);
+    match parsed {
+        Parsed::NoNode => Outcome {
+            answer: Answer::BadForm,
+            meter: emptied(m),
+        },
+        Parsed::To(node, asked) => {
+            let config = m.config;
+            if node == own_node(config.node) {
+                carry_out(m, asked, buffer, place)
+            } else {
+                Outcome {
+                    answer: Answer::OtherNode,
+                    meter: emptied(m),
+                }
+            }
+        }
+    }
+}
+
+// A byte to a started meter.
+fn receive(m: Meter, b: u8, buffer: &mut [u8], place: usize) -> Outcome
+    requires { ⌜ sound m ≡ true ⌝ }
+    ensures { λ r. ⌜ r ≡ byKind m b (now (buffer .entry)) place (kind b) .outcome ⌝ }
+    ensures { λ _. ⌜ now (buffer .exit) ≡ byKind m b (now (buffer .entry)) place (kind b) .buffer ⌝ }
+{
+    let kind = receiver::kind_of(b);
+    match kind {
+        Kind::Part => {
+            let mut n = m;
+            n.receiver = receiver::stored(m.receiver, b);
+            Outcome {
+                answer: Answer::Stored,
+                meter: n,
+            }
+        }
+        Kind::Drop => Outcome {
+            answer: Answer::Dropped,
+            meter: emptied(m),
+        },
+        Kind::End => end(m, buffer, place),
+    }
+}
+
+// ---- keys
+
+// Key 1.
+fn batch_key(m: Meter) -> Outcome
+    requires { ⌜ sound m ≡ true ⌝ }
+    ensures { λ r. ⌜ r ≡ batchOutcome m ⌝ }
+{
+    let config = m.config;
+    let totalizer = config.totalizer;
+    if totalizer.batch {
+        let i = instrument::batched(totalizer, m.instrument);
+        Outcome {
+            answer: Answer::Done,
+            meter: with_instrument(m, i),
+        }
+    } else {
+        Outcome {
+            answer: Answer::UnknownKey,
+            meter: m,
+        }
+    }
+}
+
+// Keys 2 to 4, which act as RB, RC and RD do.
+fn reset_key(m: Meter, register: usize) -> Outcome
+    requires { ⌜ (1 ≤ register) × (register ≤ 3) ⌝ }
+    ensures { λ r. ⌜ r ≡ outcome Answer.Done (withInstrument m (resetRegister (m .instrument) register)) ⌝ }
+{
+    let i = instrument::reset_register(m.instrument, register);
+    Outcome {
+        answer: Answer::Done,
+        meter: with_instrument(m, i),
+    }
+}
+
+// Key 5.
+fn alarms_key(m: Meter) -> Outcome
+    ensures { λ r. ⌜ r ≡ outcome Answer.Done (withInstrument m (resetAlarms (m .instrument))) ⌝ }
+{
+    let i = instrument::reset_alarms(m.instrument);
+    Outcome {
+        answer: Answer::Done,
+        meter: with_instrument(m, i),
+    }
+}
+
+// A key to a started meter.
+fn press(m: Meter, number: i32, buffer: &mut [u8], place: usize) -> Outcome
+    requires { ⌜ sound m ≡ true ⌝ }
+    ensures { λ r. ⌜ r ≡ pressed m number (now (buffer .entry)) place .outcome ⌝ }
+    ensures { λ _. ⌜ now (buffer .exit) ≡ pressed m number (now (buffer .entry)) place .buffer ⌝ }
+{
+    match number {
+        1 => batch_key(m),
+        2 => reset_key(m, 1),
+        3 => reset_key(m, 2),
+        4 => reset_key(m, 3),
+        5 => alarms_key(m),
+        6 => print(m, buffer, place),
+        _ => Outcome {
+            answer: Answer::UnknownKey,
+            meter: m,
+        },
+    }
+}
+
+// ---- power-up
+
+// A meter at power-up.
+fn fresh(config: Config) -> Meter
+    ensures { λ r. ⌜ r ≡ fresh config ⌝ }
+{
+    let setpoints = config.setpoints;
+    let instrument = instrument::powered_up(setpoints);
+    let receiver = receiver::power_up();
+    Meter {
+        config,
+        instrument,
+        receiver,
+    }
+}
+
+// The configuration that a refusal leaves: it has no points to scale by.
+fn no_config() -> Config
+    ensures { λ r. ⌜ r ≡ noConfig ⌝ }
+{
+    let settings = Settings {
+        hysteresis: 0,
+        on_delay: 0,
+        off_delay: 0,
+        low_acting: false,
+        latched: false,
+    };
+    Config {
+        node: 0,
+        places: Places { input: 0, total: 0 },
+        scale: Scale {
+            step: 0,
+            count: 0,
+            inputs: [0; 16],
+            displays: [0; 16],
+        },
+        totalizer: Totalizer {
+            batch: false,
+            low_cut: 0,
+            factor: 0,
+            time_base: 0,
+        },
+        setpoints: [0; 4],
+        alarms: [settings; 4],
+        capture: 0,
+        analog: Analog { low: 0, high: 0 },
+        abbreviated: false,
+        print: Print {
+            input: false,
+            extremes: false,
+            total: false,
+            setpoints: false,
+        },
+    }
+}
+
+// The reading of an input on the configuration's scale, and all that is made of it.
+fn measure(m: Meter, input: i32) -> Instrument
+    requires { ⌜ sound m ≡ true ⌝ }
+    ensures { λ r. ⌜ r ≡ instruments.sampled (m .config) (m .instrument) input ⌝ }
+{
+    let count = m.config.scale.count as usize;
+    let step = m.config.scale.step;
+    let reading = reading::reading_of(
+        &m.config.scale.inputs,
+        &m.config.scale.displays,
+        count,
+        step,
+        input,
+    );
+    let totalizer = m.config.totalizer;
+    let settings = m.config.alarms;
+    let analog = m.config.analog;
+    instrument::measured(
+        totalizer,
+        m.config.capture,
+        settings,
+        analog,
+        m.instrument,
+        reading,
+    )
+}
+
+impl Meter {
+    // A meter with a configuration: started with answer 0, or refused with the number of the first broken rule.
+    pub fn power_up(config: Config) -> Outcome
+        ensures { λ r. ⌜ r ≡ poweredUp config ⌝ }
+    {
+        let verdict = config::judged(config);
+        match verdict {
+            Verdict::Accepted => Outcome {
+                answer: Answer::Done,
+                meter: fresh(config),
+            },
+            Verdict::Broken(rule) => Outcome {
+                answer: Answer::Refused(rule),
+                meter: fresh(no_config()),
+            },
+        }
+    }
+
+    // One sample.
+    pub fn sample(self, input: i32) -> Outcome
+        ensures { λ r. ⌜ r ≡ sampled self input ⌝ }
+    {
+        if is_sound(self) {
+            let i = measure(self, input);
+            Outcome {
+                answer: Answer::Done,
+                meter: with_instrument(self, i),
+            }
+        } else {
+            Outcome {
+                answer: Answer::NotStarted,
+                meter: self,
+            }
+        }
+    }
+
+    // One key. A reply goes into the buffer from the place on.
+    pub fn key(self, number: i32, buffer: &mut [u8], place: usize) -> Outcome
+        ensures { λ r. ⌜ r ≡ keyed self number (now (buffer .entry)) place .outcome ⌝ }
+        ensures { λ _. ⌜ now (buffer .exit) ≡ keyed self number (now (buffer .entry)) place .buffer ⌝ }
+    {
+        if is_sound(self) {
+            press(self, number, buffer, place)
+        } else {
+            Outcome {
+                answer: Answer::NotStarted,
+                meter: self,
+            }
+        }
+    }
+
+    // One received byte. A reply goes into the buffer from the place on.
+    pub fn byte(self, b: u8, buffer: &mut [u8], place: usize) -> Outcome
+        ensures { λ r. ⌜ r ≡ received self b (now (buffer .entry)) place .outcome ⌝ }
+        ensures { λ _. ⌜ now (buffer .exit) ≡ received self b (now (buffer .entry)) place .buffer ⌝ }
+    {
+        if is_sound(self) {
+            receive(self, b, buffer, place)
+        } else {
+            Outcome {
+                answer: Answer::NotStarted,
+                meter: self,
+            }
+        }
+    }
+}
