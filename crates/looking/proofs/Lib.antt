@@ -1,0 +1,17 @@
+pub mod Ends
+pub mod Does
+pub mod State
+pub mod Whole
+pub mod NoChange
+pub mod Pinned
+pub mod Replies
+pub mod Strangers
+pub mod Unmoved
+pub mod Replay
+pub mod Asking
+pub mod Looking
+pub mod CarriedOut
+pub mod Polls
+pub mod OffDelay
+pub mod Demand
+pub mod Sound

@@ -1,0 +1,61 @@
+-- Events as a caller gives them in three slices, oldest first, carried out one after another over one lent buffer.
+use mathlib.Core.Path.{_≡_}
+use mathlib.Core.Bool.{Bool, cond, _&&_}
+use mathlib.Core.List.{List, [], _∷_}
+use mathlib.Core.Option.{Option, none, some}
+use Prim.Native.Nat.{ℕ}
+use lib.Dec.{eqb}
+use lib.IntN.{ℤ, pos, natAbs}
+use Rattle.exact.specs.Sign.{within}
+use Rattle.config.specs.declared.Config.{Config}
+use Rattle.meter.specs.Meter.{Step, sampled, keyed, received}
+use Rattle.looking.specs.History.{Event, sample, key, byte, History, lastOutcome}
+
+-- a value that is a byte
+abbrev pub isByte : ℤ → Bool
+isByte z = within (pos 0) (pos 255) z
+
+-- an entry of kind 0 is a sample, of kind 1 a key, of kind 2 a byte where its value is one. Any other encodes no event: the outcome
+-- before it stands, and the buffer is as it was
+abbrev pub carriedOne : Step → ℕ → ℤ → ℕ → Step
+carriedOne o kind value place =
+    cond (eqb kind 0) (record { outcome = sampled (o .outcome .meter) value; buffer = o .buffer })
+    (cond (eqb kind 1) (keyed (o .outcome .meter) value (o .buffer) place)
+    (cond (eqb kind 2 && isByte value) (received (o .outcome .meter) (natAbs value) (o .buffer) place)
+    o))
+
+-- there are as many entries as the shortest slice has
+unfoldable pub carriedOut : Step → List ℕ → List ℤ → List ℕ → Step
+carriedOut o [] values places = o
+carriedOut o (kind ∷ kinds) [] places = o
+carriedOut o (kind ∷ kinds) (value ∷ values) [] = o
+carriedOut o (kind ∷ kinds) (value ∷ values) (place ∷ places) = carriedOut (carriedOne o kind value place) kinds values places
+
+-- ── the history that entries make ──
+
+-- the event of an entry, with the buffer as it stands when the entry's turn has come
+abbrev pub encoded : List ℕ → ℕ → ℤ → ℕ → Option Event
+encoded buffer kind value place =
+    cond (eqb kind 0) (some (sample value))
+    (cond (eqb kind 1) (some (key value place buffer))
+    (cond (eqb kind 2 && isByte value) (some (byte (natAbs value) place buffer))
+    none))
+
+abbrev pub behind : Option Event → History → History
+behind none h = h
+behind (some e) h = e ∷ h
+
+-- h and then the events of the entries
+unfoldable pub historyOf : History → Step → List ℕ → List ℤ → List ℕ → History
+historyOf h o [] values places = h
+historyOf h o (kind ∷ kinds) [] places = h
+historyOf h o (kind ∷ kinds) (value ∷ values) [] = h
+historyOf h o (kind ∷ kinds) (value ∷ values) (place ∷ places) =
+    historyOf (behind (encoded (o .buffer) kind value place) h) (carriedOne o kind value place) kinds values places
+
+-- ── what is claimed ──
+
+-- entries carried out after h give back what the history's last call gives back, and so leave the history's meter
+pub record CarriesOut (c : Config) : Type 0 where
+  pub as-history : (h : History) (o : Step) (kinds : List ℕ) (values : List ℤ) (places : List ℕ) → o .outcome ≡ lastOutcome c h
+      → carriedOut o kinds values places .outcome ≡ lastOutcome c (historyOf h o kinds values places)

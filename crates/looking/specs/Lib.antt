@@ -1,0 +1,11 @@
+pub mod History
+pub mod Kept
+pub mod Given
+pub mod Pinned
+pub mod Sent
+pub mod Inserted
+pub mod StaysSound
+pub mod Looking
+pub mod CarriedOut
+pub mod Polls
+pub mod Demand

@@ -1,0 +1,93 @@
+-- Polls: the same samples with a read sent whole behind each of them, any number of times, and the example of an off delay.
+use mathlib.Core.Path.{_≡_}
+use mathlib.Core.Bool.{Bool, true, false}
+use mathlib.Core.List.{List, [], _∷_, _++_}
+use Prim.Native.Nat.{ℕ, zero, suc}
+use lib.IntN.{ℤ, pos}
+use lib.ListN.{replicate}
+use Rattle.exact.specs.Sign.{minus}
+use Rattle.alarm.specs.declared.Settings.{Settings}
+use Rattle.config.specs.declared.Config.{Config}
+use Rattle.register.specs.Bytes.{byte as char, ascii}
+use Rattle.command.specs.declared.Asked.{Asked}
+use Rattle.instrument.specs.Instrument.{alarmAt}
+use Rattle.meter.specs.Answer.{number}
+use Rattle.looking.specs.History.{sample, byte, History, lastOutcome, run, nodeOf}
+use Rattle.looking.specs.Sent.{sending, Reads}
+
+-- the lent buffer of the bench
+abbrev pub lent : List ℕ
+lent = replicate 163 0
+
+-- the string s with its star, sent whole after h
+abbrev pub poll : List ℕ → History → History
+poll s h = byte (char "*") 0 lent ∷ sending 0 lent s h
+
+abbrev pub polls : List ℕ → ℕ → History → History
+polls s zero h = h
+polls s (suc n) h = poll s (polls s n h)
+
+-- samples, newest first, with n polls behind each
+abbrev pub polled : List ℕ → ℕ → List ℤ → History
+polled s n [] = []
+polled s n (x ∷ xs) = polls s n (sample x ∷ polled s n xs)
+
+-- polls by a read leave the instrument as the samples alone do, whatever their number
+abbrev pub Unmoved : Config → Type 0
+Unmoved c = (s : List ℕ) (a : Asked) → Reads s (nodeOf c) a → (n : ℕ) (xs : List ℤ) → run c (polled s n xs) .instrument ≡ run c (polled s 0 xs) .instrument
+
+-- ── an off delay ──
+
+-- the bench meter, with an off delay of 2 tenths, which is 4 samples, on its first alarm
+abbrev pub settings : ℤ → Settings
+settings off = record { hysteresis = pos 1; «on_delay» = pos 0; «off_delay» = off; «low_acting» = false; latched = false }
+
+abbrev pub bench : Config
+bench =
+    record {
+      node = pos 5;
+      places = record { input = pos 1; total = pos 0 };
+      scale =
+          record {
+            step = pos 1;
+            count = pos 2;
+            inputs = pos 0 ∷ pos 1000 ∷ replicate 14 (pos 0);
+            displays = pos 0 ∷ pos 2000 ∷ replicate 14 (pos 0);
+          };
+      totalizer = record { batch = false; «low_cut» = minus 19999; factor = pos 1000; «time_base» = pos 60 };
+      setpoints = pos 100 ∷ pos 200 ∷ pos 300 ∷ pos 400 ∷ [];
+      alarms = settings (pos 2) ∷ settings (pos 0) ∷ settings (pos 0) ∷ settings (pos 0) ∷ [];
+      capture = pos 0;
+      analog = record { low = pos 0; high = pos 10000 };
+      abbreviated = false;
+      print = record { input = false; extremes = false; total = false; setpoints = false };
+    }
+
+-- the first setpoint is asked for
+abbrev pub asking : List ℕ
+asking = ascii "N5TE"
+
+-- one sample that reads 120, above the setpoint of 100, and then k that read 80, with n polls behind each
+abbrev pub excursion : ℕ → ℕ → History
+excursion n k = polled asking n (replicate k (pos 40) ++ pos 60 ∷ [])
+
+-- whether the first alarm is on then
+abbrev pub lit : ℕ → ℕ → Bool
+lit n k = alarmAt (run bench (excursion n k) .instrument .alarms) 0 .on
+
+-- with n polls behind each sample: on through the third sample below, off at the fourth
+pub record InTime (n : ℕ) : Type 0 where
+  pub at-once : lit n 0 ≡ true
+  pub first : lit n 1 ≡ true
+  pub second : lit n 2 ≡ true
+  pub third : lit n 3 ≡ true
+  pub fourth : lit n 4 ≡ false
+
+pub record OffDelay : Type 0 where
+  -- the polls are answered by 2
+  pub answered : number (lastOutcome bench (excursion 1 3) .answer) ≡ 2
+  -- computed with no poll, and with ten behind each sample
+  pub unpolled : InTime 0
+  pub ten : InTime 10
+  -- and so it is with any number of them
+  pub always : (n : ℕ) → InTime n
