@@ -1,0 +1,80 @@
+-- The meter over bytes and lines, over plain values. Assumes nothing.
+use mathlib.Core.Path.{_≡_, refl, sym, ap, ap₂, _∙_}
+use mathlib.Core.Bool.{Bool, true, false, cond}
+use mathlib.Core.List.{List, [], _∷_}
+use Prim.Native.Nat.{ℕ, zero, suc, _+_, _-_, _≤_, _<_}
+use native.Mathlib.Omega.{arith}
+use native.Mathlib.Numerals.{add-one}
+use lib.IntN.{ℤ}
+use lib.ListN.{length, take, drop, getD}
+use lib.Seq.{drop-cons, drop-length, take-nil}
+use borrow.Author.Tests.{le-leb}
+use Rattle.text.specs.Line.{Heard, bytes, long, heard}
+use Rattle.meter.specs.Meter.{Step, sampled}
+use Rattle.meter.specs.declared.Meter.{Meter}
+use Rattle.meter.specs.declared.Outcome.{Outcome}
+use Rattle.bench.specs.Grammar.{judged}
+use Rattle.bench.specs.Bench.{sampleStep, byteStep, bytesOn, asTold, answered, effectBy, effect}
+use Rattle.bench.specs.declared.grammar.Parsed.{Parsed}
+
+pub picked : {A : Type 0} {t : Bool} (a b : A) → t ≡ true → a ≡ cond t a b
+picked a b e = ap (λ (t : Bool). cond t a b) (sym e)
+
+pub passed : {A : Type 0} {t : Bool} (a b : A) → t ≡ false → b ≡ cond t a b
+passed a b e = ap (λ (t : Bool). cond t a b) (sym e)
+
+-- ---- a sample, whose outcome touches no reply
+
+module _ (m : Meter) (z : ℤ) (reply : List ℕ) where
+  pub sampled-told : (o : Outcome) → o ≡ sampled m z → asTold o ≡ answered (sampleStep m z reply) .told
+  unfolding sampleStep
+  sampled-told o e = ap asTold e
+
+  pub sampled-reply : reply ≡ answered (sampleStep m z reply) .reply
+  unfolding sampleStep
+  sampled-reply = refl
+
+-- ---- bytes
+
+abbrev pub stepOf : Outcome → List ℕ → Step
+stepOf o reply = record { outcome = o; buffer = reply }
+
+pub step-same : (t : Step) (o : Outcome) (reply : List ℕ) → o ≡ t .outcome → reply ≡ t .buffer → t ≡ stepOf o reply
+step-same t o reply p q = sym (ap₂ stepOf p q)
+
+pub bytes-at : (t : Step) (s : List ℕ) (i : ℕ) → i < length s
+    → bytesOn t (drop i s) ≡ bytesOn (byteStep (t .outcome .meter) (getD s i 0) (t .buffer)) (drop (i + 1) s)
+unfolding bytesOn
+bytes-at t s i h = rw (drop-cons s i 0 h, add-one i)
+
+pub bytes-out : (t : Step) (s : List ℕ) (i : ℕ) → i ≡ length s → bytesOn t (drop i s) ≡ t
+unfolding bytesOn
+bytes-out t s i e = ap (bytesOn t) (ap (λ (k : ℕ). drop k s) e ∙ drop-length s)
+
+-- what `&l[m..n]` lends
+pub part : (m n : ℕ) (l : List ℕ) → take (n - m) (drop m l) ≡ drop m (take n l)
+part zero n l =
+    let z : n - 0 ≡ n = omega arith in
+    ap (λ (k : ℕ). take k l) z
+part (suc m) zero l =
+    let z : 0 - suc m ≡ 0 = omega arith in
+    ap (λ (k : ℕ). take k (drop (suc m) l)) z
+part (suc m) (suc n) [] = take-nil (suc n - suc m)
+part (suc m) (suc n) (b ∷ l) =
+    let z : suc n - suc m ≡ n - m = omega arith in
+    ap (λ (k : ℕ). take k (drop m l)) z ∙ part m n l
+
+-- ---- a line
+
+abbrev pub textOf : Heard → List ℕ
+textOf (bytes l) = l
+textOf long = []
+
+pub effects : (m : Meter) (reply : List ℕ) (h : Heard) (p : Parsed) → p ≡ judged h → effectBy m reply (textOf h) p ≡ effect m reply h
+unfolding effect judged
+effects m reply (bytes l) p e = ap (effectBy m reply l) e
+effects m reply long p e = ap (effectBy m reply []) e
+
+pub text-is : (line : List ℕ) (len : ℕ) → len ≤ 1024 → textOf (heard line len) ≡ take len line
+unfolding heard
+text-is line len h = rw (le-leb len 1024 h)

@@ -1,0 +1,59 @@
+-- `bench::run` is safe and ends: the measure is the number of turns that are left. Assumes nothing.
+use borrow.Author.Needs.{needs}
+use native.Mathlib.Omega.{arith}
+use mathlib.Core.Path.{_≡_, refl, _∙_}
+use lib.ListN.{length}
+use Rattle.bench.proofs.run.Statement.{statement}
+use Rattle.bench.proofs.run.Tie as tie
+
+abbrev Inv-loop : tie.InvT-loop
+Inv-loop block₀ line₀ reply₀ buf₀ t₀ turns₀ block line reply buf t turns =
+    (length block ≡ length block₀) × (length reply ≡ length reply₀) × (length buf ≡ length buf₀)
+
+abbrev μ-loop : tie.MeasureT-loop
+μ-loop block₀ line₀ reply₀ buf₀ t₀ turns₀ block line reply buf t turns = turns
+
+loop-holds : tie.Need-loop-holds Inv-loop μ-loop
+loop-holds c = (refl, refl, refl)
+
+one-turn-requires : tie.Need-one-turn-requires Inv-loop μ-loop
+one-turn-requires c κs = search needs
+
+sub-turns : tie.Need-sub-turns Inv-loop μ-loop
+sub-turns c = omega arith
+
+loop-less : tie.Need-loop-less Inv-loop μ-loop
+loop-less c = omega arith
+
+loop-again : tie.Need-loop-again Inv-loop μ-loop
+loop-again c =
+    let l = c .before .before .before .before .before .before .before .before .before .before .before .before .before .loop in
+    (c .before .before .before .before .before .block .given ∙ l .inv .0, c .before .before .before .reply .given ∙ l .inv .1, c .before .buf .given ∙ l .inv .2)
+
+same-length : tie.Need-same-length Inv-loop μ-loop
+same-length c = c .before .before .loop .inv .0
+
+same-length-2 : tie.Need-same-length-2 Inv-loop μ-loop
+same-length-2 c = c .before .before .loop .inv .1
+
+same-length-3 : tie.Need-same-length-3 Inv-loop μ-loop
+same-length-3 c = c .before .before .loop .inv .2
+
+returns : tie.Need-returns Inv-loop μ-loop
+returns c = tt
+
+pub run-spec : {M : Type 1} → statement M
+run-spec =
+    tie.close
+    (tie.spec
+    Inv-loop
+    μ-loop
+    loop-holds
+    one-turn-requires
+    sub-turns
+    loop-less
+    loop-again
+    same-length
+    same-length-2
+    same-length-3
+    returns)

@@ -1,0 +1,75 @@
+-- What a line does to the meter and its reply buffer, and what it is told.
+use Prim.Native.Nat.{ℕ}
+use mathlib.Core.List.{List, [], _∷_}
+use lib.IntN.{ℤ}
+use lib.ListN.{drop, getD}
+use Rattle.text.specs.Line.{Heard, bytes, long}
+use Rattle.meter.specs.Meter.{Step, sampled, keyed, received}
+use Rattle.meter.specs.declared.Meter.{Meter}
+use Rattle.meter.specs.declared.Outcome.{Outcome}
+use Rattle.bench.specs.Grammar.{parsed}
+use Rattle.bench.specs.declared.grammar.Parsed.{Parsed}
+use Rattle.bench.specs.declared.grammar.Parsed.the-variants.{Sample, Key, Bytes, Bad}
+use Rattle.bench.specs.declared.Said.{Said}
+use Rattle.bench.specs.declared.Said.the-variants.{Answered, Unknown}
+use Rattle.bench.specs.declared.Told.{Told}
+
+-- ---- events, each at place 0 of the reply buffer
+
+unfoldable pub sampleStep : Meter → ℤ → List ℕ → Step
+sampleStep m z reply = record { outcome = sampled m z; buffer = reply }
+
+unfoldable pub keyStep : Meter → ℤ → List ℕ → Step
+keyStep m k reply = keyed m k reply 0
+
+unfoldable pub byteStep : Meter → ℕ → List ℕ → Step
+byteStep m b reply = received m b reply 0
+
+-- bytes that follow an event; the last one's answer counts
+unfoldable pub bytesOn : Step → List ℕ → Step
+bytesOn t [] = t
+bytesOn t (b ∷ s) = bytesOn (byteStep (t .outcome .meter) b (t .buffer)) s
+
+-- one byte, and those that follow
+unfoldable pub bytesStep : Meter → List ℕ → List ℕ → Step
+bytesStep m s reply = bytesOn (byteStep m (getD s 0 0) reply) (drop 1 s)
+
+-- ---- a line
+
+-- what it is told, with the meter after it, and the reply buffer after it
+pub record Effect : Type 0 where
+  pub told : Told
+  pub reply : List ℕ
+
+abbrev pub asTold : Outcome → Told
+asTold o = record { meter = o .meter; said = Answered (o .answer) }
+
+abbrev pub answered : Step → Effect
+answered t = record { told = asTold (t .outcome); reply = t .buffer }
+
+-- no line of this program: no event at all
+abbrev pub unknown : Meter → List ℕ → Effect
+unknown m reply = record { told = record { meter = m; said = Unknown }; reply = reply }
+
+abbrev pub effectBy : Meter → List ℕ → List ℕ → Parsed → Effect
+effectBy m reply l (Sample v) = answered (sampleStep m v reply)
+effectBy m reply l (Key v) = answered (keyStep m v reply)
+effectBy m reply l Bytes = answered (bytesStep m (drop 2 l) reply)
+effectBy m reply l Bad = unknown m reply
+
+unfoldable pub effect : Meter → List ℕ → Heard → Effect
+effect m reply (bytes l) = effectBy m reply l (parsed l)
+effect m reply long = unknown m reply
+
+-- ---- the stream
+
+-- what goes on from line to line
+pub record Stand : Type 0 where
+  pub meter : Meter
+  pub reply : List ℕ
+
+abbrev pub stand : Meter → List ℕ → Stand
+stand m reply = record { meter = m; reply = reply }
+
+unfoldable pub heardBy : Stand → Heard → Stand
+heardBy s h = stand (effect (s .meter) (s .reply) h .told .meter) (effect (s .meter) (s .reply) h .reply)

@@ -1,0 +1,317 @@
+// Document 01's bench program: lines `S number`, `K number` and `C bytes` from standard input drive one meter, and for each line the
+// answer of its last event is printed, after a 2 the reply itself, and `?` for any other line.
+//
+// Standard input is read in blocks, and standard output written in blocks, so the memory is the same for any input.
+mod grammar;
+
+ghost use Prim.Native.Nat.{ℕ, _<_};
+ghost use mathlib.Core.Path.{_≡_};
+ghost use mathlib.Core.Bool.{cond};
+ghost use mathlib.Core.List.{List};
+ghost use lib.Dec.{eqb};
+ghost use lib.ListN.{length, drop, take};
+ghost use Rattle.text.specs.Line.{heard, Stands, Ran};
+ghost use Rattle.bench.specs.Grammar.{Payload};
+ghost use Rattle.bench.specs.Bench.{keyStep, byteStep, bytesStep, asTold, effect, stand, heardBy};
+use alarm::Settings;
+use config::Analog;
+use config::Config;
+use config::Places;
+use config::Print;
+use config::Scale;
+use grammar::Parsed;
+use libc::STDERR_FILENO;
+use libc::STDIN_FILENO;
+use meter::Answer;
+use meter::Meter;
+use meter::Outcome;
+use text::Step;
+use text::output::Out;
+use total::Totalizer;
+
+// What a line is told: the answer of its last event, or that it is no line of this program.
+enum Said {
+    Answered(Answer),
+    Unknown,
+}
+
+// What a line did.
+struct Told {
+    meter: Meter,
+    said: Said,
+}
+
+// Between two bytes: the meter, the count of the line that is being read, and the output.
+struct State {
+    meter: Meter,
+    len: usize,
+    out: Out,
+}
+
+// One read's work, and whether the input goes on.
+struct Turn {
+    state: State,
+    more: bool,
+}
+
+// ---- one line
+
+fn key(m: Meter, number: i32, reply: &mut [u8]) -> Outcome
+    ensures { λ r. ⌜ r ≡ keyStep m number (now (reply .entry)) .outcome ⌝ }
+    ensures { λ _. ⌜ now (reply .exit) ≡ keyStep m number (now (reply .entry)) .buffer ⌝ }
+{
+    m.key(number, reply, 0)
+}
+
+fn byte(m: Meter, b: u8, reply: &mut [u8]) -> Outcome
+    ensures { λ r. ⌜ r ≡ byteStep m b (now (reply .entry)) .outcome ⌝ }
+    ensures { λ _. ⌜ now (reply .exit) ≡ byteStep m b (now (reply .entry)) .buffer ⌝ }
+{
+    m.byte(b, reply, 0)
+}
+
+// Bytes one after another; the last one's answer counts.
+fn all_bytes(m: Meter, s: &[u8], reply: &mut [u8]) -> Outcome
+    requires { ⌜ 0 < length (now s) ⌝ }
+    ensures { λ r. ⌜ r ≡ bytesStep m (now (s .entry)) (now (reply .entry)) .outcome ⌝ }
+    ensures { λ _. ⌜ now (reply .exit) ≡ bytesStep m (now (s .entry)) (now (reply .entry)) .buffer ⌝ }
+{
+    let mut o = byte(m, s[0], &mut *reply);
+    let mut i = 1;
+    while i < s.len() {
+        o = byte(o.meter, s[i], &mut *reply);
+        i += 1;
+    }
+    o
+}
+
+// The payload of a C line.
+fn payload(m: Meter, line: &[u8; 1024], len: usize, reply: &mut [u8]) -> Outcome
+    requires { ⌜ Payload len ⌝ }
+    ensures { λ r. ⌜ r ≡ bytesStep m (drop 2 (take len (now (line .entry)))) (now (reply .entry)) .outcome ⌝ }
+    ensures { λ _. ⌜ now (reply .exit) ≡ bytesStep m (drop 2 (take len (now (line .entry)))) (now (reply .entry)) .buffer ⌝ }
+{
+    let l: &[u8] = line;
+    all_bytes(m, &l[2..len], reply)
+}
+
+fn as_told(o: Outcome) -> Told
+    ensures { λ r. ⌜ r ≡ asTold o ⌝ }
+{
+    let answer = o.answer;
+    let meter = o.meter;
+    Told {
+        meter,
+        said: Said::Answered(answer),
+    }
+}
+
+// A whole line.
+fn event(m: Meter, line: &[u8; 1024], len: usize, reply: &mut [u8]) -> Told
+    ensures { λ r. ⌜ r ≡ effect m (now (reply .entry)) (heard (now (line .entry)) len) .told ⌝ }
+    ensures { λ _. ⌜ now (reply .exit) ≡ effect m (now (reply .entry)) (heard (now (line .entry)) len) .reply ⌝ }
+{
+    let p = grammar::judge(line, len);
+    match p {
+        Parsed::Sample(v) => as_told(m.sample(v)),
+        Parsed::Key(v) => as_told(key(m, v, reply)),
+        Parsed::Bytes => as_told(payload(m, line, len, reply)),
+        Parsed::Bad => Told {
+            meter: m,
+            said: Said::Unknown,
+        },
+    }
+}
+
+// ---- what is printed
+
+// Puts a number and an LF.
+fn put_number(buf: &mut [u8], o: Out, n: u64) -> Out {
+    let mut digits = [0u8; 20];
+    let k = io::decimal(n, &mut digits);
+    let p = text::output::put(&mut *buf, o, &digits[..k]);
+    text::output::put(&mut *buf, p, b"\n")
+}
+
+// Puts the first n bytes of the reply, of which there are as many.
+fn put_reply(buf: &mut [u8], o: Out, reply: &[u8], n: usize) -> Out {
+    if n <= reply.len() {
+        return text::output::put(buf, o, &reply[0..n]);
+    }
+    o
+}
+
+fn put_answer(buf: &mut [u8], o: Out, reply: &[u8], a: Answer) -> Out {
+    let p = put_number(&mut *buf, o, answer::number(a));
+    if let Answer::Replied(n) = a {
+        return put_reply(&mut *buf, p, reply, n);
+    }
+    p
+}
+
+fn put_said(buf: &mut [u8], o: Out, reply: &[u8], said: Said) -> Out {
+    match said {
+        Said::Answered(a) => put_answer(buf, o, reply, a),
+        Said::Unknown => text::output::put(buf, o, b"?\n"),
+    }
+}
+
+// ---- the stream
+
+// After a step of the line: the event, where it ended.
+fn stepped(line: &[u8; 1024], reply: &mut [u8], buf: &mut [u8], s: State, f: Step) -> State
+    ensures { λ r. ⌜ r .len ≡ cond (f .ended) 0 (f .len) ⌝ }
+    ensures { λ r. ⌜ stand (r .meter) (now (reply .exit)) ≡ cond (f .ended) (heardBy (stand (s .meter) (now (reply .entry))) (heard (now (line .entry)) (f .len))) (stand (s .meter) (now (reply .entry))) ⌝ }
+{
+    if f.ended {
+        return answered(line, f.len, reply, buf, s);
+    }
+    let mut t = s;
+    t.len = f.len;
+    t
+}
+
+// A line that has ended: its event, and what it is told.
+fn answered(line: &[u8; 1024], len: usize, reply: &mut [u8], buf: &mut [u8], s: State) -> State
+    ensures { λ r. ⌜ r .len ≡ 0 ⌝ }
+    ensures { λ r. ⌜ stand (r .meter) (now (reply .exit)) ≡ heardBy (stand (s .meter) (now (reply .entry))) (heard (now (line .entry)) len) ⌝ }
+{
+    let t = event(s.meter, line, len, &mut *reply);
+    let said = t.said;
+    let out = put_said(buf, s.out, &*reply, said);
+    let meter = t.meter;
+    State { meter, len: 0, out }
+}
+
+// The lines that a block ends, and the start of the one that it leaves open.
+fn lines(block: &[u8], line: &mut [u8; 1024], reply: &mut [u8], buf: &mut [u8], s: State) -> State
+    ensures { λ r. ⌜ ((l : List ℕ) → Stands l (now (line .entry)) (s .len)
+        → Ran heardBy (now (block .entry)) l (stand (s .meter) (now (reply .entry))) (stand (r .meter) (now (reply .exit))) (now (line .exit)) (r .len)) ⌝ }
+{
+    let mut t = s;
+    let mut at = 0;
+    while at < block.len() {
+        let f = text::feed(&mut *line, t.len, &block[at..]);
+        at += f.used;
+        t = stepped(&*line, &mut *reply, &mut *buf, t, f);
+    }
+    t
+}
+
+// Reads once, and does what came. A read that fails ends the input, and so does a write that fails.
+fn one_turn(
+    block: &mut [u8],
+    line: &mut [u8; 1024],
+    reply: &mut [u8],
+    buf: &mut [u8],
+    s: State,
+) -> Turn {
+    let got = libc::read(STDIN_FILENO, &mut *block);
+    let n = io::count(got, &*block);
+    if n == 0 {
+        return Turn {
+            state: s,
+            more: false,
+        };
+    }
+    let t = lines(&block[0..n], &mut *line, &mut *reply, &mut *buf, s);
+    let o = t.out;
+    Turn {
+        state: t,
+        more: o.ok,
+    }
+}
+
+// A last line that no LF ends counts, where it has a byte.
+fn end(line: &[u8; 1024], reply: &mut [u8], buf: &mut [u8], s: State) -> State
+    ensures { λ r. ⌜ stand (r .meter) (now (reply .exit)) ≡ cond (eqb (s .len) 0) (stand (s .meter) (now (reply .entry))) (heardBy (stand (s .meter) (now (reply .entry))) (heard (now (line .entry)) (s .len))) ⌝ }
+{
+    if s.len == 0 {
+        return s;
+    }
+    answered(line, s.len, reply, buf, s)
+}
+
+// A proved loop has to end, and nothing says that the input does. So the loop counts its turns down from 2^64 - 1, a number that no
+// run uses up: at a turn each nanosecond it would take more than five hundred years.
+fn run(
+    block: &mut [u8],
+    line: &mut [u8; 1024],
+    reply: &mut [u8],
+    buf: &mut [u8],
+    s: State,
+) -> State {
+    let mut t = Turn {
+        state: s,
+        more: true,
+    };
+    let mut turns = u64::MAX;
+    while turns > 0 && t.more {
+        t = one_turn(&mut *block, &mut *line, &mut *reply, &mut *buf, t.state);
+        turns -= 1;
+    }
+    t.state
+}
+
+// ---- the meter
+
+// The bench meter of document 01.
+fn bench_config() -> Config {
+    let settings = Settings {
+        hysteresis: 1,
+        on_delay: 0,
+        off_delay: 0,
+        low_acting: false,
+        latched: false,
+    };
+    Config {
+        node: 5,
+        places: Places { input: 1, total: 0 },
+        scale: Scale {
+            step: 1,
+            count: 2,
+            inputs: [0, 1000, 0, 0, 0, 0, 0, 0, 0, 0, 0, 0, 0, 0, 0, 0],
+            displays: [0, 2000, 0, 0, 0, 0, 0, 0, 0, 0, 0, 0, 0, 0, 0, 0],
+        },
+        totalizer: Totalizer {
+            batch: false,
+            low_cut: -19999,
+            factor: 1000,
+            time_base: 60,
+        },
+        setpoints: [100, 200, 300, 400],
+        alarms: [settings; 4],
+        capture: 0,
+        analog: Analog {
+            low: 0,
+            high: 10000,
+        },
+        abbreviated: false,
+        print: Print {
+            input: false,
+            extremes: false,
+            total: false,
+            setpoints: false,
+        },
+    }
+}
+
+fn main() {
+    let o = Meter::power_up(bench_config());
+    let meter = o.meter;
+    let mut block = io::large_buffer();
+    let mut line = [0u8; 1024];
+    let mut reply = [0u8; 163];
+    let mut buf = io::large_buffer();
+    let begun = State {
+        meter,
+        len: 0,
+        out: Out { at: 0, ok: true },
+    };
+    let s = run(&mut block, &mut line, &mut reply, &mut buf, begun);
+    let e = end(&line, &mut reply, &mut buf, s);
+    let out = text::output::flush(&buf, e.out);
+    if !out.ok {
+        io::write_all(STDERR_FILENO, b"a write failed\n");
+    }
+}

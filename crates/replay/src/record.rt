@@ -1,0 +1,298 @@
+// What a line of a recorded history says.
+//
+//   CFG ..          a configuration: 73 words, in the order of `setting` and `config_of`
+//   S n             a sample
+//   K n place       a key
+//   B byte place    a received byte
+//
+// One space stands between two words, and nothing else. Any other line is bad: a number past its width, a byte past 255, a yes/no
+// that is neither 0 nor 1, a word too many or too few.
+//
+// The format grows without breaking old files: a new setting comes as a further word at the end of `CFG`, where a line without it has
+// the value that leaves the meter as it was, and anything else comes as a line with a letter of its own.
+ghost use Prim.Native.Nat.{_≤_};
+use alarm::Settings;
+use config::Analog;
+use config::Config;
+use config::Places;
+use config::Print;
+use config::Scale;
+use text::Flag;
+use text::Natural;
+use text::Number;
+use total::Totalizer;
+
+// A configuration's words are in the array that `parse` is lent.
+pub enum Event {
+    Configuration,
+    Sample(i32),
+    Key(i32, usize),
+    Byte(u8, usize),
+    Bad,
+}
+
+// A place: an unsigned number of 64 bits, which has at most 20 digits.
+fn place(s: &[u8]) -> Natural {
+    text::read_natural(20, s)
+}
+
+fn sample(s: &[u8]) -> Event {
+    let n = text::read_number(s);
+    match n {
+        Number::Is(v) => Event::Sample(v),
+        Number::Not => Event::Bad,
+    }
+}
+
+fn key_at(n: Number, p: Natural) -> Event {
+    let Number::Is(v) = n else {
+        return Event::Bad;
+    };
+    let Natural::Is(at) = p else {
+        return Event::Bad;
+    };
+    Event::Key(v, at as usize)
+}
+
+fn byte_at(n: Natural, p: Natural) -> Event {
+    let Natural::Is(v) = n else {
+        return Event::Bad;
+    };
+    let Natural::Is(at) = p else {
+        return Event::Bad;
+    };
+    if v <= 255 {
+        Event::Byte(v as u8, at as usize)
+    } else {
+        Event::Bad
+    }
+}
+
+fn key(s: &[u8]) -> Event {
+    let e = text::word_end(s, 0);
+    if e < s.len() {
+        key_at(text::read_number(&s[0..e]), place(&s[e + 1..]))
+    } else {
+        Event::Bad
+    }
+}
+
+fn byte(s: &[u8]) -> Event {
+    let e = text::word_end(s, 0);
+    if e < s.len() {
+        byte_at(text::read_natural(3, &s[0..e]), place(&s[e + 1..]))
+    } else {
+        Event::Bad
+    }
+}
+
+// Whether word i of a configuration is a yes/no: the last two of each alarm's six, and the last six of all.
+fn is_flag(i: usize) -> bool {
+    if i < 40 {
+        return false;
+    }
+    if i < 64 {
+        return 4 <= (i - 40) % 6;
+    }
+    67 <= i
+}
+
+fn as_number(f: Flag) -> Number {
+    match f {
+        Flag::Is(yes) => { if yes { Number::Is(1) } else { Number::Is(0) } }
+        Flag::Not => Number::Not,
+    }
+}
+
+// Word i of a configuration.
+fn setting(i: usize, s: &[u8]) -> Number {
+    if is_flag(i) {
+        return as_number(text::read_flag(s));
+    }
+    text::read_number(s)
+}
+
+// The words of a configuration, as many as there are places for them.
+fn configuration(s: &[u8], settings: &mut [i32; 73]) -> Event {
+    let mut at = 0;
+    let mut i = 0;
+    while i < 73 {
+        let e = text::word_end(s, at);
+        let n = setting(i, &s[at..e]);
+        let Number::Is(v) = n else {
+            return Event::Bad;
+        };
+        settings[i] = v;
+        i += 1;
+        if e == s.len() {
+            return ended(i);
+        }
+        at = e + 1;
+    }
+    Event::Bad
+}
+
+// A line that ends after so many words.
+fn ended(words: usize) -> Event {
+    if words == 73 {
+        Event::Configuration
+    } else {
+        Event::Bad
+    }
+}
+
+// A line of one letter, a space and the rest.
+fn short(k: u8, s: &[u8]) -> Event {
+    match k {
+        b'S' => sample(s),
+        b'K' => key(s),
+        b'B' => byte(s),
+        _ => Event::Bad,
+    }
+}
+
+// A line, as its bytes without the LF.
+fn parse(s: &[u8], settings: &mut [i32; 73]) -> Event {
+    if s.len() < 4 {
+        return brief(s);
+    }
+    if (s[0] == b'C') & (s[1] == b'F') & (s[2] == b'G') & (s[3] == b' ') {
+        return configuration(&s[4..], settings);
+    }
+    brief(s)
+}
+
+// A line of one letter and what belongs to it.
+fn brief(s: &[u8]) -> Event {
+    if s.len() < 3 {
+        return Event::Bad;
+    }
+    if s[1] == b' ' {
+        return short(s[0], &s[2..]);
+    }
+    Event::Bad
+}
+
+// The line of an array and a count.
+pub fn judge(line: &[u8; 1024], len: usize, settings: &mut [i32; 73]) -> Event {
+    let s: &[u8] = line;
+    if s.len() < len {
+        return Event::Bad;
+    }
+    parse(&s[0..len], settings)
+}
+
+// The inputs of the 16 points, and their displays, one after the other in turn.
+fn inputs_of(s: &[i32; 73]) -> [i32; 16] {
+    [
+        s[5],
+        s[7],
+        s[9],
+        s[11],
+        s[13],
+        s[15],
+        s[17],
+        s[19],
+        s[21],
+        s[23],
+        s[25],
+        s[27],
+        s[29],
+        s[31],
+        s[33],
+        s[35],
+    ]
+}
+
+fn displays_of(s: &[i32; 73]) -> [i32; 16] {
+    [
+        s[6],
+        s[8],
+        s[10],
+        s[12],
+        s[14],
+        s[16],
+        s[18],
+        s[20],
+        s[22],
+        s[24],
+        s[26],
+        s[28],
+        s[30],
+        s[32],
+        s[34],
+        s[36],
+    ]
+}
+
+// An alarm's six words from a place on: setpoint, hysteresis, on and off delay, low acting, latched.
+fn alarm_at(s: &[i32; 73], at: usize) -> Settings
+    requires { ⌜ at ≤ 58 ⌝ }
+{
+    Settings {
+        hysteresis: s[at + 1],
+        on_delay: s[at + 2],
+        off_delay: s[at + 3],
+        low_acting: s[at + 4] == 1,
+        latched: s[at + 5] == 1,
+    }
+}
+
+fn scale_of(s: &[i32; 73]) -> Scale {
+    let inputs = inputs_of(s);
+    let displays = displays_of(s);
+    Scale {
+        step: s[3],
+        count: s[4],
+        inputs,
+        displays,
+    }
+}
+
+fn totalizer_of(s: &[i32; 73]) -> Totalizer {
+    Totalizer {
+        batch: s[67] == 1,
+        low_cut: s[39],
+        factor: s[37],
+        time_base: s[38],
+    }
+}
+
+fn print_of(s: &[i32; 73]) -> Print {
+    Print {
+        input: s[69] == 1,
+        extremes: s[70] == 1,
+        total: s[71] == 1,
+        setpoints: s[72] == 1,
+    }
+}
+
+// The configuration of its 73 words: node, places of input and total, rounding, number of points, 16 points, factor, time base, low
+// cut, four alarms, capture, analog low and high, batch, abbreviated, and what a block prints.
+pub fn config_of(s: &[i32; 73]) -> Config {
+    let scale = scale_of(s);
+    let totalizer = totalizer_of(s);
+    let first = alarm_at(s, 40);
+    let second = alarm_at(s, 46);
+    let third = alarm_at(s, 52);
+    let fourth = alarm_at(s, 58);
+    let print = print_of(s);
+    Config {
+        node: s[0],
+        places: Places {
+            input: s[1],
+            total: s[2],
+        },
+        scale,
+        totalizer,
+        setpoints: [s[40], s[46], s[52], s[58]],
+        alarms: [first, second, third, fourth],
+        capture: s[64],
+        analog: Analog {
+            low: s[65],
+            high: s[66],
+        },
+        abbreviated: s[68] == 1,
+        print,
+    }
+}

@@ -1,0 +1,259 @@
+// What a line of the replayed history shows: the answer, the whole state of the meter, and the buffer.
+ghost use mathlib.Core.Path.{_≡_};
+ghost use Prim.Native.Nat.{_≤_};
+ghost use lib.IntN.{natAbs};
+ghost use lib.ListN.{length};
+use alarm::Alarm;
+use extremes::Extreme;
+use instrument::Instrument;
+use instrument::Mode;
+use meter::Answer;
+use meter::Meter;
+use reading::Reading;
+use text::output::Out;
+use text::output::put;
+use total::Range;
+use total::Total;
+
+// The size of a signed number, also of the least one, whose size has no sign that fits.
+fn size_of(z: i64) -> u64
+    ensures { λ r. ⌜ r ≡ natAbs z ⌝ }
+{
+    if z < 0 {
+        (0 - (z + 1)) as u64 + 1
+    } else {
+        z as u64
+    }
+}
+
+fn put_natural(buf: &mut [u8], o: Out, n: u64) -> Out {
+    let mut digits = [0u8; 20];
+    let k = io::decimal(n, &mut digits);
+    put(buf, o, &digits[..k])
+}
+
+fn put_number(buf: &mut [u8], o: Out, z: i64) -> Out {
+    if z < 0 {
+        let p = put(&mut *buf, o, b"-");
+        return put_natural(&mut *buf, p, size_of(z));
+    }
+    put_natural(&mut *buf, o, size_of(z))
+}
+
+// A word of the line: its name, and a number.
+fn put_named(buf: &mut [u8], o: Out, name: &[u8], z: i64) -> Out {
+    let p = put(&mut *buf, o, name);
+    put_number(&mut *buf, p, z)
+}
+
+fn put_signed(buf: &mut [u8], o: Out, name: &[u8], z: i32) -> Out {
+    put_named(buf, o, name, z as i64)
+}
+
+fn put_count(buf: &mut [u8], o: Out, name: &[u8], n: u32) -> Out {
+    let p = put(&mut *buf, o, name);
+    put_natural(&mut *buf, p, n as u64)
+}
+
+const HEX: [u8; 16] = *b"0123456789abcdef";
+
+fn put_hex_byte(buf: &mut [u8], o: Out, b: u8) -> Out {
+    let high = (b / 16) as usize;
+    let low = (b % 16) as usize;
+    let two = [HEX[high], HEX[low]];
+    put(buf, o, &two)
+}
+
+// Bytes in hexadecimal, or a dash where there are none.
+fn put_hex(buf: &mut [u8], o: Out, s: &[u8]) -> Out {
+    if s.len() == 0 {
+        return put(&mut *buf, o, b"-");
+    }
+    let mut p = o;
+    let mut i = 0;
+    while i < s.len() {
+        p = put_hex_byte(&mut *buf, p, s[i]);
+        i += 1;
+    }
+    p
+}
+
+fn put_reading(buf: &mut [u8], o: Out, name: &[u8], reading: Reading) -> Out {
+    let p = put(&mut *buf, o, name);
+    match reading {
+        Reading::Nothing => put(&mut *buf, p, b"--"),
+        Reading::Under => put(&mut *buf, p, b"UL"),
+        Reading::Number(v) => put_signed(&mut *buf, p, b"", v),
+        Reading::Over => put(&mut *buf, p, b"OL"),
+    }
+}
+
+// The total of a sum, where the time base is one that can be.
+fn quotient(sum: i64, time_base: i32) -> i64 {
+    if time_base < 1 {
+        return 0;
+    }
+    exact::cut(sum, 20000 * time_base as i64)
+}
+
+fn put_total(buf: &mut [u8], o: Out, t: Total, time_base: i32) -> Out {
+    let p = put_named(&mut *buf, o, b" SUM=", t.sum);
+    let range = t.range;
+    match range {
+        Range::Within => put_named(&mut *buf, p, b" TOT=", quotient(t.sum, time_base)),
+        Range::Under => put(&mut *buf, p, b" TOT=UL"),
+        Range::Over => put(&mut *buf, p, b" TOT=OL"),
+    }
+}
+
+fn put_extremes(buf: &mut [u8], o: Out, max: Extreme, min: Extreme) -> Out {
+    let p = put_reading(&mut *buf, o, b" MAX=", extremes::shown(max));
+    let q = put_reading(&mut *buf, p, b" MIN=", extremes::shown(min));
+    let r = put_count(&mut *buf, q, b" MR=", max.run);
+    put_count(&mut *buf, r, b" NR=", min.run)
+}
+
+fn put_setpoints(buf: &mut [u8], o: Out, alarms: [Alarm; 4]) -> Out {
+    let a = alarms[0];
+    let b = alarms[1];
+    let c = alarms[2];
+    let d = alarms[3];
+    let p = put_signed(&mut *buf, o, b" SP=", a.setpoint);
+    let q = put_signed(&mut *buf, p, b",", b.setpoint);
+    let r = put_signed(&mut *buf, q, b",", c.setpoint);
+    put_signed(&mut *buf, r, b",", d.setpoint)
+}
+
+fn on_digit(a: Alarm) -> u8 {
+    if a.on { b'1' } else { b'0' }
+}
+
+fn put_states(buf: &mut [u8], o: Out, alarms: [Alarm; 4]) -> Out {
+    let p = put(&mut *buf, o, b" AL=");
+    let on = [
+        on_digit(alarms[0]),
+        on_digit(alarms[1]),
+        on_digit(alarms[2]),
+        on_digit(alarms[3]),
+    ];
+    put(&mut *buf, p, &on)
+}
+
+fn put_runs(buf: &mut [u8], o: Out, alarms: [Alarm; 4]) -> Out {
+    let a = alarms[0];
+    let b = alarms[1];
+    let c = alarms[2];
+    let d = alarms[3];
+    let p = put_count(&mut *buf, o, b" RUN=", a.run);
+    let q = put_count(&mut *buf, p, b",", b.run);
+    let r = put_count(&mut *buf, q, b",", c.run);
+    put_count(&mut *buf, r, b",", d.run)
+}
+
+fn put_alarms(buf: &mut [u8], o: Out, alarms: [Alarm; 4]) -> Out {
+    let p = put_setpoints(&mut *buf, o, alarms);
+    let q = put_states(&mut *buf, p, alarms);
+    put_runs(&mut *buf, q, alarms)
+}
+
+fn put_mode(buf: &mut [u8], o: Out, mode: Mode) -> Out {
+    match mode {
+        Mode::Automatic => put(buf, o, b" MODE=A MAN=0"),
+        Mode::Manual(outputs) => put_count(buf, o, b" MODE=M MAN=", outputs as u32),
+    }
+}
+
+// What was measured: reading, total, max and min.
+fn put_measured(buf: &mut [u8], o: Out, i: Instrument, time_base: i32) -> Out {
+    let reading = i.reading;
+    let total = i.total;
+    let max = i.max;
+    let min = i.min;
+    let p = put_reading(&mut *buf, o, b" R=", reading);
+    let q = put_total(&mut *buf, p, total, time_base);
+    put_extremes(&mut *buf, q, max, min)
+}
+
+// What is driven: alarms, analog code, mode.
+fn put_driven(buf: &mut [u8], o: Out, i: Instrument) -> Out {
+    let alarms = i.alarms;
+    let mode = i.mode;
+    let p = put_alarms(&mut *buf, o, alarms);
+    let q = put_signed(&mut *buf, p, b" AO=", i.code);
+    put_mode(&mut *buf, q, mode)
+}
+
+// The half received string, or that it is too long.
+fn put_received(buf: &mut [u8], o: Out, bytes: &[u8; 32], length: usize) -> Out {
+    let held: &[u8] = bytes;
+    let p = put(&mut *buf, o, b" RX=");
+    if held.len() < length {
+        return put(&mut *buf, p, b"- RXO=1");
+    }
+    let q = put_hex(&mut *buf, p, &held[0..length]);
+    put(&mut *buf, q, b" RXO=0")
+}
+
+// How many bytes the buffer has without the EE at its end.
+fn filled(buffer: &[u8]) -> usize
+    ensures { λ r. ⌜ r ≤ length (now (buffer .entry)) ⌝ }
+{
+    let mut n = buffer.len();
+    while 0 < n {
+        if buffer[n - 1] != 238 {
+            return n;
+        }
+        n -= 1;
+    }
+    0
+}
+
+fn put_buffer(buf: &mut [u8], o: Out, buffer: &[u8]) -> Out {
+    let n = filled(buffer);
+    let p = put(&mut *buf, o, b" BUF=");
+    let q = put_hex(&mut *buf, p, &buffer[0..n]);
+    put(&mut *buf, q, b"\n")
+}
+
+// The answer's two numbers, with what stands before each.
+fn put_answer(buf: &mut [u8], o: Out, before: &[u8], a: Answer, between: &[u8]) -> Out {
+    let p = put(&mut *buf, o, before);
+    let q = put_natural(&mut *buf, p, answer::number(a));
+    let r = put(&mut *buf, q, between);
+    put_natural(&mut *buf, r, answer::value(a))
+}
+
+// The line of a configuration.
+pub fn put_power_up(buf: &mut [u8], o: Out, a: Answer) -> Out {
+    let p = put_answer(&mut *buf, o, b"", a, b" ");
+    put(&mut *buf, p, b"\n")
+}
+
+fn put_state(buf: &mut [u8], o: Out, m: Meter) -> Out {
+    let config = m.config;
+    let totalizer = config.totalizer;
+    let instrument = m.instrument;
+    let receiver = m.receiver;
+    let p = put_measured(&mut *buf, o, instrument, totalizer.time_base);
+    let q = put_driven(&mut *buf, p, instrument);
+    put_received(&mut *buf, q, &receiver.bytes, receiver.length)
+}
+
+// Whether the meter is not started, and so has no state to show.
+fn is_not_started(a: Answer) -> bool {
+    if let Answer::NotStarted = a {
+        true
+    } else {
+        false
+    }
+}
+
+// The line of an event.
+pub fn put_event(buf: &mut [u8], o: Out, a: Answer, m: Meter, buffer: &[u8]) -> Out {
+    let p = put_answer(&mut *buf, o, b"A=", a, b" V=");
+    if is_not_started(a) {
+        return put_buffer(&mut *buf, p, buffer);
+    }
+    let q = put_state(&mut *buf, p, m);
+    put_buffer(&mut *buf, q, buffer)
+}

@@ -1,0 +1,5 @@
+pub mod Laws
+pub mod Numbers
+pub mod Lines
+pub mod Streams
+pub mod Cases
