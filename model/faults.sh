@@ -1,0 +1,171 @@
+#!/bin/sh
+# Puts one fault after the other into a copy of the model, and shows after how
+# many events the differential test finds it. A fault that is not found, or a
+# row of the table that changes nothing, makes the script end with 1.
+#
+#   ./faults.sh              every fault of the table
+#   ./faults.sh NAME ..      only these, each with its shortened history
+#
+# SEED and EVENTS can be set in the environment.
+set -eu
+cd "$(dirname "$0")"
+
+seed=${SEED:-1}
+events=${EVENTS:-3000000}
+copy=target/faults
+
+# name | file | sed command
+table() {
+    cat <<'TABLE'
+alarm-run-survives-another-sample | alarms | /pub fn take_sample/,/return/ s/self.run = 0;//
+alarm-run-left-after-change | alarms | /fn change_state/,/state =/ s/self.run = 0;//
+alarm-on-at-equal | alarms | s/value > number/value >= number/
+alarm-low-on-at-equal | alarms | s/value < number/value <= number/
+alarm-off-one-early | alarms | s/value <= number/value < number/
+alarm-low-off-one-early | alarms | s/value >= number/value > number/
+alarm-latch-forgotten | alarms | s/!settings.latched && //
+alarm-off-delay-for-on | alarms | s/AlarmState::Off => settings.on_delay/AlarmState::Off => settings.off_delay/
+alarm-reset-leaves-run | alarms | /pub fn reset/,/^    }/ s/self.run = 0;//
+alarm-reset-only-when-on | alarms | /pub fn reset/,/^    }/ s/self.run = 0;/if was { self.run = 0; }/; /pub fn reset/,/^    }/ s/self.state = AlarmState::Off;/let was = self.is_on(); self.state = AlarmState::Off;/
+setpoint-unchanged-clears-run | alarms | s/if value != self.setpoint/if true/
+setpoint-new-keeps-run | alarms | /pub fn write_setpoint/,/^    }/ s/self.run = 0;//
+setpoint-new-resets-state | alarms | /pub fn write_setpoint/,/^    }/ s/self.run = 0;/self.reset();/
+over-not-above | alarms | /^fn is_above/,/^}/ s/Reading::Over => true/Reading::Over => false/
+under-not-below | alarms | /^fn is_at_or_below/,/^}/ s/Reading::Under => true/Reading::Under => false/
+halves-towards-zero | fraction | s/2 \* left_over >= self.denominator/2 * left_over > self.denominator/
+halves-up | fraction | s/if 2 \* left_over >= self.denominator/if 2 * left_over > self.denominator || (2 * left_over == self.denominator \&\& self.numerator > 0)/
+cut-is-floor | fraction | s/self.numerator \/ self.denominator/self.numerator.div_euclid(self.denominator)/
+rounded-once | reading | s/let whole = line_at(.*/let step = i128::from(configuration.rounding); let width = i128::from(right.input - left.input); let rise = i128::from(right.display - left.display); let once = Fraction::new(i128::from(left.display) * width + i128::from(input - left.input) * rise, width * step); return within_display(once.nearest_half_away_from_zero() * step); let whole = 0;/
+segment-left-one-late | reading | s/ends\[1\].input >= input/ends[1].input + 1 >= input/
+first-segment-behind-the-last | reading | s/(points\[points.len() - 2\], points\[points.len() - 1\])/(points[0], points[1])/
+input-limit-one-wide | reading | s/if input > LARGEST_INPUT/if input > LARGEST_INPUT + 1/
+input-limit-one-narrow | reading | s/if input < -LARGEST_INPUT/if input <= -LARGEST_INPUT/
+low-end-of-display | reading | s/result < i128::from(LOWEST_DISPLAY)/result <= i128::from(LOWEST_DISPLAY)/
+low-cut-itself-left-out | total | s/number >= i128::from/number > i128::from/
+low-cut-in-batch | total | /pub fn take_batch/,/^    }/ s/if let Reading::Number(number) = reading {/if let Reading::Number(number) = reading { if number < i128::from(configuration.low_cut) { return; }/
+factor-in-batch | total | s/number \* sum_of_one(configuration)/number * sum_of_one(configuration) * i128::from(configuration.scale_factor) \/ 1000/
+batch-adds-by-time-too | total | s/if configuration.batch {/if false {/
+total-over-one-late | total | s/999_999_999;/1_000_000_000;/
+total-under-one-late | total | s/-199_999_999;/-200_000_000;/
+total-over-thaws | total | s/if self.bounds != Bounds::Within/if false/
+total-sum-passes-the-edge | total | s/self.bounds = Bounds::Over;/self.bounds = Bounds::Over; self.sum = new_sum;/
+capture-one-late | extremes | s/self.run >= samples_needed/self.run > samples_needed/
+capture-run-survives-over | extremes | s/_ => self.run = 0,/(Reading::Over, _) => {} _ => self.run = 0,/
+first-number-starts-a-run | extremes | s/(Reading::Number(number), None) => self.hold(number)/(Reading::Number(number), None) => { self.hold(number); self.run = 1; }/
+equal-counts-as-beyond | extremes | s/number > held/number >= held/
+reset-max-keeps-run | extremes | /pub fn reset/,/^    }/ s/self.run = 0;//
+reset-max-keeps-number-at-over | extremes | s/Reading::Nothing | Reading::Over | Reading::Under => None/_ => self.held/
+delay-not-doubled | config | s/2 \* i128::from(tenths)/i128::from(tenths)/
+delay-cut-short-at-the-end | config | s/std::cmp::max(1, 2 \* i128::from(tenths))/std::cmp::max(1, 2 * i128::from(tenths)).min(65_499)/
+node-100-taken | config | s/lies_in(self.node, 0, 99)/lies_in(self.node, 0, 100)/
+five-places-taken | config | s/lies_in(self.total_places, 0, 4)/lies_in(self.total_places, 0, 5)/
+step-25-taken | config | s/\[1, 2, 5, 10, 20, 50, 100\]/[1, 2, 5, 10, 20, 25, 50, 100]/
+points-not-strictly-rising | config | s/neighbours\[0\].input < neighbours/neighbours[0].input <= neighbours/
+unused-points-judged | config | s/let each_in_range = points.iter()/let each_in_range = self.points.iter()/
+hysteresis-0-taken | config | s/lies_in(alarm.hysteresis, 1, 9_999)/lies_in(alarm.hysteresis, 0, 9_999)/
+delay-32751-taken | config | s/lies_in(tenths, 0, 32_750)/lies_in(tenths, 0, 32_751)/
+factor-65001-taken | config | s/lies_in(self.scale_factor, 1, 65_000)/lies_in(self.scale_factor, 1, 65_001)/
+equal-analog-ends-taken | config | s/\&\& self.analog_low != self.analog_high//
+low-cut-judged-after-alarms | config | /(Rule::LowCut, /d; s/(Rule::CaptureTime, is_delay/(Rule::LowCut, is_display(self.low_cut)), (Rule::CaptureTime, is_delay/
+analog-nearest | analog | s/high - low).floor()/high - low).nearest_half_away_from_zero()/
+analog-over-by-direction | analog | s/Reading::Over => HIGHEST_CODE/Reading::Over => if configuration.analog_high < configuration.analog_low { 0 } else { HIGHEST_CODE }/
+analog-not-held | analog | s/code.clamp(0, HIGHEST_CODE)/code.clamp(0, HIGHEST_CODE + 1)/
+33-for-32 | receiver | s/LONGEST_STRING: usize = 32/LONGEST_STRING: usize = 33/
+31-for-32 | receiver | s/LONGEST_STRING: usize = 32/LONGEST_STRING: usize = 31/
+line-feed-stored | receiver | s/CARRIAGE_RETURN | LINE_FEED =>/CARRIAGE_RETURN =>/
+star-is-2e | receiver | s/b'\*' | b'\$'/b'.' | b'*' | b'$'/
+too-long-forgotten-tail | receiver | s/\*self = Receiver::TooLong;/*self = Receiver::Gathering(vec![byte]);/
+three-digits-of-address | command | s/\.take(2)/.take(3)/
+no-digit-is-another-node | command | /if digits == 0/,/}/ s/Refusal::BadForm/Refusal::OtherNode/
+form-before-address | command | s/if node != own_node {/if node != own_node \&\& matches!(body.first(), Some(b'T' | b'V' | b'R' | b'P')) {/
+six-digits-count | command | s/saturating_sub(5)/saturating_sub(6)/
+points-not-ignored | command | s/byte.is_ascii_digit() || \*byte == b'.'/byte.is_ascii_digit()/
+minus-alone-is-0 | command | s/if digits.is_empty()/if digits.is_empty() \&\& !negative/
+minus-forgotten | command | s/if negative { -size }/if negative { size }/
+status-byte-of-8-bits | command | s/if \*byte <= 127 //
+analog-4096-written | command | s/0..=HIGHEST_CODE/0..=HIGHEST_CODE + 1/
+lower-case-command | command | s/Some((b'T', rest))/Some((b'T' | b't', rest))/
+reset-of-input-taken | command | s/b"B" => Ok(Command::ResetTotal)/b"A" | b"B" => Ok(Command::ResetTotal)/
+print-with-register | command | s/if rest.is_empty()/if rest.len() < 2/
+node-0-in-digits | reply | s/if node == 0/if node == 100/
+node-without-leading-zero | reply | s/{node:02}/{node:>2}/
+no-digit-before-point | reply | s/width = places + 1/width = places.max(1)/
+block-end-with-nothing-chosen | reply | s/if !chosen_lines.is_empty()/if true/
+total-with-input-places | meter | s/reply::total_data(self.total(), total_places)/reply::total_data(self.total(), places)/
+block-in-menu-order | meter | /(settings.print_total, Register::Total),/d; s/(settings.print_setpoints, Register::Setpoint(0))/(settings.print_total, Register::Total), (settings.print_setpoints, Register::Setpoint(0))/
+max-never-taken | meter | s/self.max.take_sample(self.reading, capture);//
+analog-follows-in-manual | meter | s/if self.mode == Mode::Automatic {/if true {/
+code-late-on-return | meter | /fn write_control_status/,/^    }/ s/self.work_out_code();//
+analog-judged-before-range | meter | s/match understand(string, self.configuration.node) {/match understand(string, self.configuration.node) { Err(Refusal::OutsideRange) if self.mode == Mode::Automatic \&\& string.windows(2).any(|two| two == b"VI") => Answer::AnalogInAutomatic,/
+status-resets-bits-of-1 | meter | s/if !bit {/if bit {/
+status-reset-in-manual-too | meter | s/self.mode = Mode::Manual { outputs: bits };/self.mode = Mode::Manual { outputs: bits }; for (alarm, bit) in self.alarms.iter_mut().zip(bits) { if !bit { alarm.reset(); } }/
+status-shows-hidden-alarms | meter | s/Mode::Manual { outputs } => 16 + number_of_bits(outputs)/Mode::Manual { .. } => 16 + number_of_bits([0, 1, 2, 3].map(|index| self.alarms[index].is_on()))/
+place-at-end-has-no-room | meter | s/if end_of_reply > end_of_buffer/if end_of_reply > end_of_buffer || u128::from(place) == end_of_buffer/
+place-past-end-takes-0-bytes | meter | s/if end_of_reply > end_of_buffer {/if reply.is_empty() { return Answer::ReplyWritten(0); } if end_of_reply > end_of_buffer {/
+place-wraps | meter | s/u128::from(place) + reply.len() as u128/u128::from(place.wrapping_add(reply.len() as u64))/; s/let start = place as usize;/let start = (place as usize).min(150);/
+key-6-empties-receiver | meter | s/6 => self.carry_out(Command::BlockPrint, place, buffer)/6 => { self.receiver = Receiver::empty(); self.carry_out(Command::BlockPrint, place, buffer) }/
+sample-empties-receiver | meter | /fn sample/,/^    }/ s/Answer::CarriedOut/self.receiver = Receiver::empty(); Answer::CarriedOut/
+key-number-of-8-bits | meter | s/match number {/match i32::from(number as u8) {/
+transmit-clears-runs | meter | s/Command::Transmit(register) => write_reply/Command::Transmit(register) => { for alarm in \&mut self.alarms { alarm.write_setpoint(alarm.setpoint() + 1); alarm.write_setpoint(alarm.setpoint() - 1); } write_reply/; s/write_reply(\&self.line_of(register), place, buffer),/write_reply(\&self.line_of(register), place, buffer) }/
+other-node-clears-runs | meter | s/Err(Refusal::OtherNode) => Answer::OtherNode/Err(Refusal::OtherNode) => { self.max.reset(self.max.shown()); Answer::OtherNode }/
+refused-keeps-old-meter | meter | s/\*self = Meter::NotStarted;//
+TABLE
+}
+
+# Copies the model without its differential test, and puts the fault in.
+spoil() {
+    rm -rf "$copy/src"
+    mkdir -p "$copy/src/bin"
+    cp src/*.rs "$copy/src/"
+    cp src/bin/model.rs "$copy/src/bin/"
+    sed -i '/pub mod differ;/d' "$copy/src/lib.rs"
+    sed '/name = "differ"/d; /src\/bin\/differ.rs/d' Cargo.toml |
+        awk '/^\[\[bin\]\]/ { if (seen++) next } { print }' > "$copy/Cargo.toml"
+    sed -i "$2" "$copy/src/$1.rs"
+    if cmp -s "src/$1.rs" "$copy/src/$1.rs"; then
+        echo "the fault changes nothing" >&2
+        return 1
+    fi
+    RUSTFLAGS=-Awarnings cargo build --quiet --release --offline \
+        --manifest-path "$copy/Cargo.toml" --bin model
+}
+
+# Whether the first word is among the others, or there are no others.
+wanted() {
+    sought=$1
+    shift
+    [ $# -eq 0 ] && return 0
+    for one in "$@"; do
+        [ "$one" = "$sought" ] && return 0
+    done
+    return 1
+}
+
+cargo build --quiet --release --offline
+table > target/faults.table
+missed=0
+while IFS= read -r row; do
+    name=${row%% | *}
+    rest=${row#* | }
+    file=${rest%% | *}
+    edit=${rest#* | }
+    wanted "$name" "$@" || continue
+    if ! spoil "$file" "$edit"; then
+        echo "$name: could not be put in"
+        missed=1
+        continue
+    fi
+    status=0
+    target/release/differ --seed "$seed" --events "$events" -- \
+        "$copy/target/release/model" > target/faults.out 2>/dev/null || status=$?
+    found=$(sed -n 's/^DIFFERENCE after \([0-9]*\) events.*/\1/p' target/faults.out)
+    lines=$(sed -n 's/^shortened to \([0-9]*\) lines in \([0-9]*\) runs.*/\1 lines (\2 runs)/p' target/faults.out)
+    if [ "$status" -eq 1 ] && [ -n "$found" ]; then
+        printf '%-34s found after %8s events, shortened to %s\n' "$name" "$found" "$lines"
+        [ $# -eq 0 ] || sed -n '/^shortened to/,$p' target/faults.out
+    else
+        printf '%-34s NOT FOUND in %s events\n' "$name" "$events"
+        missed=1
+    fi
+done < target/faults.table
+exit $missed

@@ -1,0 +1,16 @@
+//! The differential test: random histories by seed, fed to the model and to
+//! another program, and compared line by line.
+
+pub mod broken;
+pub mod compare;
+pub mod floods;
+pub mod histories;
+pub mod other;
+pub mod places;
+pub mod random;
+pub mod samples;
+pub mod script;
+pub mod settings;
+pub mod shorten;
+pub mod strings;
+pub mod tally;

@@ -1,0 +1,215 @@
+//! Random configurations that break no rule.
+
+use super::random::Random;
+use crate::config::{AlarmSettings, Configuration, Point, HIGHEST_DISPLAY, LOWEST_DISPLAY};
+
+/// A good configuration. Ends of ranges come often, and delays are mostly so
+/// small that they complete.
+pub fn good_settings(random: &mut Random) -> Configuration {
+    let point_count = point_count(random);
+    let points = points(random, point_count as usize);
+    let near = middle_display(&points[..point_count as usize]);
+    let (analog_low, analog_high) = analog_ends(random, near);
+    Configuration {
+        node: node(random),
+        input_places: random.setting(0, 4),
+        total_places: random.setting(0, 4),
+        rounding: rounding(random),
+        point_count,
+        points,
+        scale_factor: scale_factor(random),
+        time_base: random.pick(&[1, 1, 60, 60, 3_600, 86_400]),
+        low_cut: low_cut(random, near),
+        alarms: [(); 4].map(|_| alarm(random, near)),
+        capture_time: delay(random),
+        analog_low,
+        analog_high,
+        batch: random.one_in(4),
+        abbreviated: random.one_in(3),
+        print_input: !random.one_in(3),
+        print_max_min: random.one_in(2),
+        print_total: random.one_in(2),
+        print_setpoints: random.one_in(2),
+    }
+}
+
+/// The scale that shows the input itself, where floods must aim exactly.
+pub fn straight_settings(random: &mut Random) -> Configuration {
+    let mut settings = good_settings(random);
+    settings.rounding = 1;
+    settings.point_count = 2;
+    settings.points[0] = point(LOWEST_DISPLAY, LOWEST_DISPLAY);
+    settings.points[1] = point(HIGHEST_DISPLAY, HIGHEST_DISPLAY);
+    settings
+}
+
+fn point(input: i32, display: i32) -> Point {
+    Point { input, display }
+}
+
+fn node(random: &mut Random) -> i32 {
+    match random.below(6) {
+        0 | 1 => 0,
+        2 => random.pick(&[5, 17]),
+        3 => random.setting(1, 9),
+        4 => random.pick(&[9, 10, 12, 90, 98, 99]),
+        _ => random.setting(10, 99),
+    }
+}
+
+fn rounding(random: &mut Random) -> i32 {
+    if random.one_in(2) {
+        1
+    } else {
+        random.pick(&[1, 2, 5, 10, 20, 50, 100])
+    }
+}
+
+fn point_count(random: &mut Random) -> i32 {
+    match random.below(4) {
+        0 | 1 => 2,
+        2 => random.pick(&[3, 15, 16]),
+        _ => random.setting(2, 16),
+    }
+}
+
+/// Points with rising inputs in front, and anything at all behind them.
+fn points(random: &mut Random, in_use: usize) -> [Point; 16] {
+    let mut points = [Point::default(); 16];
+    for point in &mut points {
+        *point = unused_point(random);
+    }
+    let inputs = rising_inputs(random, in_use);
+    let display_kind = random.below(5);
+    for (point, input) in points.iter_mut().zip(inputs) {
+        point.input = input;
+        point.display = display(random, display_kind, input);
+    }
+    points
+}
+
+fn unused_point(random: &mut Random) -> Point {
+    let wild = |random: &mut Random| match random.below(4) {
+        0 => 0,
+        1 => random.pick(&[i32::MIN, i32::MAX, 100_000, -100_000, 99_999]),
+        _ => random.setting(-200_000, 200_000),
+    };
+    point(wild(random), wild(random))
+}
+
+/// Strictly rising inputs: tight ones that give many halves, wide ones, and
+/// ones that reach the ends of the range.
+fn rising_inputs(random: &mut Random, count: usize) -> Vec<i32> {
+    let reach = random.pick(&[10, 40, 400, 3_000, 30_000, 99_999]);
+    let mut inputs: Vec<i32> = Vec::new();
+    while inputs.len() < count {
+        let input = random.setting(-reach, reach);
+        if !inputs.contains(&input) {
+            inputs.push(input);
+        }
+    }
+    inputs.sort_unstable();
+    if random.one_in(4) {
+        inputs[0] = -99_999;
+    }
+    if random.one_in(4) {
+        inputs[count - 1] = 99_999;
+    }
+    inputs
+}
+
+fn display(random: &mut Random, kind: usize, input: i32) -> i32 {
+    match kind {
+        0 => input.clamp(LOWEST_DISPLAY, HIGHEST_DISPLAY),
+        1 => random.setting(-50, 50),
+        2 => random.setting(-500, 500),
+        3 => (-input).clamp(LOWEST_DISPLAY, HIGHEST_DISPLAY),
+        _ => any_display(random),
+    }
+}
+
+/// Any display; the ends of the range come often.
+pub fn any_display(random: &mut Random) -> i32 {
+    match random.below(6) {
+        0 => LOWEST_DISPLAY,
+        1 => HIGHEST_DISPLAY,
+        2 => random.setting(-200, 200),
+        _ => random.setting(LOWEST_DISPLAY, HIGHEST_DISPLAY),
+    }
+}
+
+/// A display that the scale is likely to reach.
+fn middle_display(points: &[Point]) -> i32 {
+    let lowest = points.iter().map(|point| point.display).min();
+    let highest = points.iter().map(|point| point.display).max();
+    (lowest.unwrap_or(0) + highest.unwrap_or(0)) / 2
+}
+
+/// A display near to where the readings will lie, at times any other.
+fn display_near(random: &mut Random, near: i32) -> i32 {
+    if random.one_in(6) {
+        any_display(random)
+    } else {
+        let reach = random.pick(&[3, 30, 300]);
+        (near + random.setting(-reach, reach)).clamp(LOWEST_DISPLAY, HIGHEST_DISPLAY)
+    }
+}
+
+fn scale_factor(random: &mut Random) -> i32 {
+    match random.below(4) {
+        0 => random.pick(&[1, 65_000]),
+        1 => 1_000,
+        _ => random.setting(1, 65_000),
+    }
+}
+
+fn low_cut(random: &mut Random, near: i32) -> i32 {
+    match random.below(4) {
+        0 => random.pick(&[LOWEST_DISPLAY, HIGHEST_DISPLAY]),
+        1 => 0,
+        _ => display_near(random, near),
+    }
+}
+
+fn alarm(random: &mut Random, near: i32) -> AlarmSettings {
+    AlarmSettings {
+        setpoint: display_near(random, near),
+        hysteresis: hysteresis(random),
+        on_delay: delay(random),
+        off_delay: delay(random),
+        low_acting: random.one_in(2),
+        latched: random.one_in(4),
+    }
+}
+
+fn hysteresis(random: &mut Random) -> i32 {
+    match random.below(6) {
+        0 => 9_999,
+        1 => random.setting(1, 9_999),
+        2 => random.setting(1, 200),
+        _ => random.setting(1, 4),
+    }
+}
+
+/// A delay in tenths: mostly 0 to 4, so that runs complete.
+fn delay(random: &mut Random) -> i32 {
+    match random.below(12) {
+        0 => 32_750,
+        1 => random.setting(5, 40),
+        2 | 3 => 0,
+        _ => random.setting(0, 4),
+    }
+}
+
+fn analog_ends(random: &mut Random, near: i32) -> (i32, i32) {
+    loop {
+        let low = display_near(random, near);
+        let high = match random.below(3) {
+            0 => any_display(random),
+            _ => display_near(random, near),
+        };
+        if low != high {
+            return (low, high);
+        }
+    }
+}

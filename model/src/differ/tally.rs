@@ -1,0 +1,124 @@
+//! What a run has reached: events, answers, broken rules and states.
+
+use crate::analog::Mode;
+use crate::answer::{Answer, ANSWER_NAMES};
+use crate::lines::{Outcome, Replay};
+use crate::meter::{Event, Meter, Running};
+use crate::reading::Reading;
+use crate::total::Total;
+use std::fmt;
+
+/// Counts of everything that the model's side of a run came to.
+#[derive(Clone, Default, Debug)]
+pub struct Tally {
+    pub samples: u64,
+    pub keys: u64,
+    pub bytes: u64,
+    pub power_ups: u64,
+    pub not_understood: u64,
+    answers: [u64; 13],
+    rules: [u64; 11],
+    readings_over: u64,
+    readings_under: u64,
+    totals_over: u64,
+    totals_under: u64,
+    alarms_on: u64,
+    alarm_changes: u64,
+    manual: u64,
+    captured: u64,
+    last_alarms: [bool; 4],
+    last_extremes: Option<(Reading, Reading)>,
+}
+
+impl Tally {
+    /// Samples, keys and bytes together.
+    pub fn events(&self) -> u64 {
+        self.samples + self.keys + self.bytes
+    }
+
+    /// Counts one line that the model has carried out.
+    pub fn count(&mut self, outcome: Outcome, replay: &Replay) {
+        match outcome {
+            Outcome::NotUnderstood => self.not_understood += 1,
+            Outcome::PoweredUp(answer) => self.count_power_up(answer),
+            Outcome::Carried(event, answer) => {
+                self.answers[answer.number()] += 1;
+                match event {
+                    Event::Sample(_) => self.samples += 1,
+                    Event::Key { .. } => self.keys += 1,
+                    Event::Byte { .. } => self.bytes += 1,
+                }
+                if let Meter::Started(running) = replay.meter() {
+                    self.count_state(event, running);
+                }
+            }
+        }
+    }
+
+    fn count_power_up(&mut self, answer: Answer) {
+        self.power_ups += 1;
+        self.answers[answer.number()] += 1;
+        if let Answer::ConfigurationRefused(rule) = answer {
+            self.rules[rule.number()] += 1;
+        }
+        self.last_alarms = [false; 4];
+        self.last_extremes = None;
+    }
+
+    fn count_state(&mut self, event: Event, running: &Running) {
+        self.readings_over += u64::from(running.reading == Reading::Over);
+        self.readings_under += u64::from(running.reading == Reading::Under);
+        self.totals_over += u64::from(running.total() == Total::Over);
+        self.totals_under += u64::from(running.total() == Total::Under);
+        self.manual += u64::from(running.mode != Mode::Automatic);
+        let alarms = [0, 1, 2, 3].map(|index| running.alarms[index].is_on());
+        self.alarms_on += u64::from(alarms.contains(&true));
+        self.alarm_changes += u64::from(alarms != self.last_alarms);
+        self.last_alarms = alarms;
+        let extremes = (running.max.shown(), running.min.shown());
+        let changed = self.last_extremes.is_some_and(|last| last != extremes);
+        self.captured += u64::from(changed && matches!(event, Event::Sample(_)));
+        self.last_extremes = Some(extremes);
+    }
+}
+
+impl fmt::Display for Tally {
+    fn fmt(&self, out: &mut fmt::Formatter) -> fmt::Result {
+        writeln!(
+            out,
+            "events compared: {} (samples {}, keys {}, bytes {})",
+            self.events(),
+            self.samples,
+            self.keys,
+            self.bytes
+        )?;
+        writeln!(
+            out,
+            "power-ups: {}, lines not of the format: {}",
+            self.power_ups, self.not_understood
+        )?;
+        writeln!(out, "answers reached:")?;
+        for (number, name) in ANSWER_NAMES.iter().enumerate() {
+            writeln!(out, "  {number:>2} {name:<22} {:>10}", self.answers[number])?;
+        }
+        write!(out, "configurations refused by rule:")?;
+        for (rule, count) in self.rules.iter().enumerate().skip(1) {
+            write!(out, " {rule}: {count}")?;
+        }
+        writeln!(
+            out,
+            "\nevents left with: reading Over {}, Under {}; total Over {}, Under {}; manual {}; an alarm on {}",
+            self.readings_over,
+            self.readings_under,
+            self.totals_over,
+            self.totals_under,
+            self.manual,
+            self.alarms_on
+        )?;
+        writeln!(
+            out,
+            "events that changed: an alarm's state {}; max or min, by a sample {}",
+            self.alarm_changes, self.captured
+        )
+    }
+}

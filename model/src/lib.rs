@@ -1,0 +1,26 @@
+//! A model of the panel meter, written from document 01 alone.
+//!
+//! Every module carries out one section of document 01 in the plainest way:
+//! wide whole numbers, exact fractions and comparisons, and nothing kept that
+//! can be worked out again. It shares no code with the core it is held against.
+//!
+//! Comments name the sentence that a function carries out by its section and
+//! its number there, counted from 1 within the section or, in the section on
+//! register strings, within the paragraph.
+
+pub mod alarms;
+pub mod analog;
+pub mod answer;
+pub mod bench;
+pub mod command;
+pub mod config;
+pub mod extremes;
+pub mod fraction;
+pub mod lines;
+pub mod meter;
+pub mod reading;
+pub mod receiver;
+pub mod reply;
+pub mod total;
+
+pub mod differ;
