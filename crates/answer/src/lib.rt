@@ -1,7 +1,22 @@
-// Document 01's numbers for an answer, as a program prints them.
-use meter::Answer;
+// The numbered answers of document 01: one case for each row of its table, and the numbers that the table gives them.
 ghost use mathlib.Core.Path.{_≡_};
-ghost use Rattle.meter.specs.Answer.{number, value};
+ghost use Rattle.answer.specs.Answer.{number, value};
+
+pub enum Answer {
+    Done,
+    Stored,
+    Replied(usize),
+    OtherNode,
+    BadForm,
+    Dropped,
+    TooLong,
+    OutOfRange,
+    InAutomatic,
+    NoRoom,
+    UnknownKey,
+    Refused(u32),
+    NotStarted,
+}
 
 // The answer's own number.
 pub fn number(a: Answer) -> u64

@@ -4,13 +4,13 @@
 ghost use Prim.Native.Nat.{_<_};
 ghost use lib.ListN.{length};
 use alarm::Settings;
+use answer::Answer;
 use config::Analog;
 use config::Config;
 use config::Places;
 use config::Print;
 use config::Scale;
 use libc::STDOUT_FILENO;
-use meter::Answer;
 use meter::Meter;
 use meter::Outcome;
 use total::Totalizer;

@@ -29,12 +29,13 @@ use Rattle.instrument.specs.declared.Permit.{Permit}
 use Rattle.instrument.specs.declared.Permit.the-variants.{Allowed, OutOfRange, InAutomatic}
 use Rattle.meter.specs.Sound.{sound}
 use Rattle.meter.specs.Meter.{outcome, withInstrument, Step, step, emptied, writtenBy, carried, addressed, ended, byKind, pressed, done, batchKey}
-use Rattle.meter.specs.declared.Answer.the-variants.{Done, TooLong, OtherNode, UnknownKey}
+use Rattle.answer.specs.declared.Answer.the-variants.{Done, TooLong, OtherNode, UnknownKey}
 use Rattle.meter.specs.declared.Meter.{Meter}
+use Rattle.promises.proofs.Door.{keyed-in, received-in}
 use Rattle.looking.specs.History.{Event, sample, key, byte, outcomeOf, nodeOf}
 use Rattle.looking.specs.Kept.{Kept, told, prints, ends, keeps}
 use Rattle.looking.specs.Given.{written, carry}
-use Rattle.looking.proofs.Ends.{keyed-in, received-in, at-end}
+use Rattle.looking.proofs.Ends.{at-end}
 
 -- what nothing or one entry does
 abbrev pub carriedBy : Config → Instrument → Option Kept → Instrument

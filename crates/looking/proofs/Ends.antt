@@ -1,50 +1,29 @@
--- The door stands open to a sound meter, and what it makes of the end of a string turns on what its receiver has heard alone.
-use mathlib.Core.Path.{_≡_, refl, sym, ap, _∙_}
+-- What a byte does to the string half received.
+use mathlib.Core.Path.{_≡_, refl, _∙_}
 use mathlib.Core.Bool.{Bool, true, false, cond, _||_}
 use mathlib.Core.List.{List}
 use Prim.Native.Nat.{ℕ}
 use native.Mathlib.Omega.{arith}
 use borrow.Author.Tests.{eqb-true}
 use lib.Dec.{eqb}
-use lib.IntN.{ℤ}
-use lib.ListN.{length, take}
+use lib.ListN.{length}
 use Rattle.register.specs.Bytes.{byte as char}
-use Rattle.receiver.specs.Receiver.{Heard, bytes, too-long, over, kind, heard}
+use Rattle.receiver.specs.Receiver.{over, kind, heard}
 use Rattle.receiver.specs.Since.{ending, hearing}
 use Rattle.receiver.specs.declared.Kind.the-variants.{End, Drop, Part}
 use Rattle.command.specs.Parse.{parse}
-use Rattle.meter.specs.Sound.{sound}
-use Rattle.meter.specs.Meter.{Step, step, emptied, addressed, ended, byKind, received, pressed, keyed}
-use Rattle.meter.specs.declared.Answer.the-variants.{TooLong}
+use Rattle.meter.specs.Meter.{step, emptied, addressed, ended}
+use Rattle.answer.specs.declared.Answer.the-variants.{TooLong}
 use Rattle.meter.specs.declared.Meter.{Meter}
+use Rattle.promises.proofs.Door as door
+use Rattle.promises.proofs.Door.{ended-by}
 use Rattle.looking.specs.Kept.{ends, drops}
 
-opens : {A : Type 0} {t : Bool} (x y : A) → t ≡ true → cond t x y ≡ x
-opens x y e = rw e
-
 module _ (m : Meter) (buffer : List ℕ) (place : ℕ) where
-  pub keyed-in : (k : ℤ) → sound m ≡ true → keyed m k buffer place ≡ pressed m k buffer place
-  keyed-in k ok = opens _ _ ok
-
-  pub received-in : (b : ℕ) → sound m ≡ true → received m b buffer place ≡ byKind m b buffer place (kind b)
-  received-in b ok = opens _ _ ok
-
-  -- a string that has ended, as its bytes or as too long
-  abbrev pub judged : Heard → Step
-  judged (bytes s) = addressed m (parse s) buffer place
-  judged too-long = step TooLong (emptied m) buffer
-
-  judged-by : (s : List ℕ) (t : Bool) → judged (cond t too-long (bytes s)) ≡ cond t (step TooLong (emptied m) buffer) (addressed m (parse s) buffer place)
-  judged-by s true = refl
-  judged-by s false = refl
-
-  ended-heard : judged (heard (m .receiver)) ≡ ended m buffer place
-  unfolding heard
-  ended-heard = judged-by (take (m .receiver .length) (m .receiver .bytes)) (over (m .receiver .length))
-
+  -- the end of the string s, which may be too long
   pub at-end : (s : List ℕ) → heard (m .receiver) ≡ hearing s
       → ended m buffer place ≡ cond (over (length s)) (step TooLong (emptied m) buffer) (addressed m (parse s) buffer place)
-  at-end s e = sym ended-heard ∙ ap judged e ∙ judged-by s (over (length s))
+  at-end s e = door.at-end m buffer place (hearing s) e ∙ ended-by m buffer place s (over (length s))
 
 -- ── what a byte does to a string ──
 

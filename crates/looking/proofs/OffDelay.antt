@@ -29,7 +29,7 @@ use Rattle.field.specs.Field as fields
 use Rattle.line.specs.Line as lines
 use Rattle.line.specs.Buffer as buffers
 use Rattle.instrument.specs.declared.Instrument.{Instrument}
-use Rattle.meter.specs.Answer.{number}
+use Rattle.answer.specs.Answer.{number}
 use Rattle.meter.specs.Meter as meters
 use Rattle.meter.specs.Sound.{canScale, soundConfig, sound}
 use Rattle.looking.specs.History.{lastOutcome}

@@ -21,10 +21,11 @@ use Rattle.command.specs.declared.Parsed.the-variants.{To}
 use Rattle.form.proofs.Meaning.{says-parse}
 use Rattle.line.specs.Buffer as buffers
 use Rattle.instrument.specs.declared.Instrument.{Instrument}
-use Rattle.meter.specs.Answer.{number}
+use Rattle.answer.specs.Answer.{number}
 use Rattle.meter.specs.Meter.{emptied, carried, addressed, byKind, received, keyed, replied, printReply}
 use Rattle.meter.specs.Sound.{sound}
 use Rattle.meter.specs.declared.Meter.{Meter}
+use Rattle.promises.proofs.Door.{keyed-in, received-in}
 use Rattle.looking.specs.History.{History, run, bytesOf, nodeOf, half}
 use Rattle.looking.specs.Kept.{ends, kept}
 use Rattle.looking.specs.Given.{given}
@@ -32,7 +33,7 @@ use Rattle.looking.specs.Sent as sent
 use Rattle.looking.specs.Sent.{Sent, Reads, replyTo, Room, shownBy}
 use Rattle.looking.specs.StaysSound.{StaysSound}
 use Rattle.looking.specs.Looking.{SameReply}
-use Rattle.looking.proofs.Ends.{keyed-in, received-in, at-end, end-kind}
+use Rattle.looking.proofs.Ends.{at-end, end-kind}
 use Rattle.looking.proofs.State.{meterAfter, state, sound-run, holds, same-instrument}
 use Rattle.looking.proofs.Whole.{sent-half, sent-kept, short-reads}
 

@@ -3,7 +3,7 @@ use mathlib.Core.Path.{_≡_}
 use mathlib.Core.Bool.{true}
 use Rattle.meter.specs.Sound.{sound}
 use Rattle.meter.specs.declared.Meter.{Meter}
-use Rattle.meter.proofs.StaysSound.{stays-sound}
+use Rattle.promises.proofs.StaysSound.{stays-sound}
 use Rattle.looking.specs.History.{Event, sample, key, byte, outcomeOf}
 use Rattle.looking.specs.StaysSound.{StaysSound}
 use Rattle.looking.specs.Demand.{Demand3}

@@ -33,18 +33,19 @@ use Rattle.instrument.specs.Instrument.{batched, permit}
 use Rattle.instrument.specs.declared.Instrument.{Instrument}
 use Rattle.instrument.specs.declared.Permit.{Permit}
 use Rattle.instrument.specs.declared.Permit.the-variants.{Allowed, OutOfRange, InAutomatic}
-use Rattle.meter.specs.Answer.{number}
+use Rattle.answer.specs.Answer.{number}
 use Rattle.meter.specs.Sound.{sound}
 use Rattle.meter.specs.Meter.{outcome, Step, step, withReceiver, emptied, writtenBy, carried, addressed, ended, byKind, received, pressed, batchKey, done, withInstrument}
-use Rattle.meter.specs.declared.Answer.the-variants.{Done, Stored, OtherNode, Dropped, TooLong, UnknownKey, NotStarted}
+use Rattle.answer.specs.declared.Answer.the-variants.{Done, Stored, OtherNode, Dropped, TooLong, UnknownKey, NotStarted}
 use Rattle.meter.specs.declared.Meter.{Meter}
+use Rattle.promises.proofs.Door.{keyed-in, received-in}
 use Rattle.looking.specs.History.{Event, sample, key, byte, History, outcomeOf, run, nodeOf, half}
 use Rattle.looking.specs.Kept.{prints, ends, drops}
 use Rattle.looking.specs.Sent as sent
 use Rattle.looking.specs.Sent.{Reads}
 use Rattle.looking.specs.StaysSound.{StaysSound}
 use Rattle.looking.specs.Looking.{Draws}
-use Rattle.looking.proofs.Ends.{keyed-in, received-in, at-end, end-kind, part-kind, drop-kind}
+use Rattle.looking.proofs.Ends.{at-end, end-kind, part-kind, drop-kind}
 use Rattle.looking.proofs.State.{sound-run, heard-run, config-run}
 
 -- ── a string for another node ──

@@ -34,7 +34,7 @@ use Rattle.instrument.specs.declared.Permit.{Permit}
 use Rattle.instrument.specs.declared.Permit.the-variants.{Allowed, OutOfRange, InAutomatic}
 use Rattle.meter.specs.Meter.{Step, step, emptied, writtenBy, carried, addressed, byKind, received, setpointOf}
 use Rattle.meter.specs.Sound.{sound}
-use Rattle.meter.specs.declared.Answer.the-variants.{OtherNode, TooLong, NotStarted}
+use Rattle.answer.specs.declared.Answer.the-variants.{OtherNode, TooLong, NotStarted}
 use Rattle.meter.specs.declared.Meter.{Meter}
 use Rattle.looking.specs.History.{Event, sample, key, byte, History, run, nodeOf, half}
 use Rattle.looking.specs.Kept.{Kept, told, ends, keeps}

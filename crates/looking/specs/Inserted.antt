@@ -14,9 +14,9 @@ use Rattle.command.specs.declared.Asked.{Asked}
 use Rattle.command.specs.declared.Asked.the-variants.{Write}
 use Rattle.form.specs.Grammar.{Says}
 use Rattle.instrument.specs.declared.Instrument.{Instrument}
-use Rattle.meter.specs.Answer.{number}
+use Rattle.answer.specs.Answer.{number}
 use Rattle.meter.specs.Meter.{setpointOf}
-use Rattle.meter.specs.declared.Answer.{Answer}
+use Rattle.answer.specs.declared.Answer.{Answer}
 use Rattle.looking.specs.History.{Event, sample, key, byte, History, outcomeOf, run, nodeOf, half}
 use Rattle.looking.specs.Kept.{ends, drops}
 use Rattle.looking.specs.Sent.{Reads}

@@ -18,9 +18,9 @@ use Rattle.instrument.specs.Instrument.{alarmAt}
 use Rattle.instrument.specs.declared.Instrument.{Instrument}
 use Rattle.instrument.specs.declared.Mode.{Mode}
 use Rattle.instrument.specs.declared.Mode.the-variants.{Automatic, Manual}
-use Rattle.meter.specs.Answer.{number}
+use Rattle.answer.specs.Answer.{number}
 use Rattle.meter.specs.Meter.{Step, step, withReceiver, emptied, printReply, received, keyed}
-use Rattle.meter.specs.declared.Answer.the-variants.{Stored, OtherNode, Dropped, TooLong}
+use Rattle.answer.specs.declared.Answer.the-variants.{Stored, OtherNode, Dropped, TooLong}
 use Rattle.looking.specs.History.{Event, sample, key, byte, History, outcomeOf, run, nodeOf, half}
 use Rattle.looking.specs.Kept.{Kept, measured, pressed, told, ends, drops, kept}
 use Rattle.looking.specs.Given.{given}

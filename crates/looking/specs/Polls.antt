@@ -11,7 +11,7 @@ use Rattle.config.specs.declared.Config.{Config}
 use Rattle.register.specs.Bytes.{byte as char, ascii}
 use Rattle.command.specs.declared.Asked.{Asked}
 use Rattle.instrument.specs.Instrument.{alarmAt}
-use Rattle.meter.specs.Answer.{number}
+use Rattle.answer.specs.Answer.{number}
 use Rattle.looking.specs.History.{sample, byte, History, lastOutcome, run, nodeOf}
 use Rattle.looking.specs.Sent.{sending, Reads}
 

@@ -9,7 +9,7 @@ use Rattle.command.specs.declared.Asked.{Asked}
 use Rattle.command.specs.declared.Asked.the-variants.{Read, Print, Reset, Write, Status, BadForm}
 use Rattle.form.specs.Grammar.{Says}
 use Rattle.instrument.specs.declared.Instrument.{Instrument}
-use Rattle.meter.specs.Answer.{value}
+use Rattle.answer.specs.Answer.{value}
 use Rattle.meter.specs.Meter.{Step, readReply, printReply}
 use Rattle.looking.specs.History.{byte, History}
 

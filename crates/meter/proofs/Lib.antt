@@ -1,4 +1,2 @@
 pub mod Started
 pub mod Shows
-pub mod StaysSound
-pub mod Answers

@@ -1,4 +1,2 @@
-pub mod Answer
 pub mod Sound
 pub mod Meter
-pub mod Promises

@@ -38,8 +38,8 @@ use Rattle.instrument.specs.declared.Instrument.{Instrument}
 use Rattle.instrument.specs.declared.Permit.{Permit}
 use Rattle.instrument.specs.declared.Permit.the-variants.{Allowed, OutOfRange as RangeLeft, InAutomatic as ModeLeft}
 use Rattle.meter.specs.Sound.{sound}
-use Rattle.meter.specs.declared.Answer.{Answer}
-use Rattle.meter.specs.declared.Answer.the-variants.{Done, Stored, Replied, OtherNode, BadForm, Dropped, TooLong, OutOfRange, InAutomatic, NoRoom, UnknownKey, Refused, NotStarted}
+use Rattle.answer.specs.declared.Answer.{Answer}
+use Rattle.answer.specs.declared.Answer.the-variants.{Done, Stored, Replied, OtherNode, BadForm, Dropped, TooLong, OutOfRange, InAutomatic, NoRoom, UnknownKey, Refused, NotStarted}
 use Rattle.meter.specs.declared.Meter.{Meter}
 use Rattle.meter.specs.declared.Outcome.{Outcome}
 

@@ -2,6 +2,7 @@
 // byte. Nothing is left to the caller to check first.
 use alarm::Alarm;
 use alarm::Settings;
+use answer::Answer;
 use block::Options;
 use block::Values;
 use command::Asked;
@@ -23,6 +24,7 @@ ghost use mathlib.Core.Path.{_≡_};
 ghost use mathlib.Core.Bool.{true};
 ghost use Prim.Native.Nat.{_≤_};
 ghost use lib.IntN.{natAbs};
+ghost use Rattle.answer.specs.declared.Answer.the-variants.{Done};
 ghost use Rattle.total.specs.Total as totals;
 ghost use Rattle.config.specs.Config.{nodeRule, placesRule};
 ghost use Rattle.form.specs.Understood.{Permitted};
@@ -31,23 +33,6 @@ ghost use Rattle.instrument.specs.Instrument as instruments;
 ghost use Rattle.receiver.specs.Receiver.{kind};
 ghost use Rattle.meter.specs.Sound.{canShow, canScale, canDivide, soundConfig, sound};
 ghost use Rattle.meter.specs.Meter.{noConfig, fresh, withInstrument, emptied, answerOf, replied, style, options, setpoints, values, readReply, printReply, writeOutcome, changed, outcome, carried, ended, byKind, received, batchOutcome, pressed, keyed, poweredUp, sampled};
-
-// The numbered answers of document 01.
-pub enum Answer {
-    Done,
-    Stored,
-    Replied(usize),
-    OtherNode,
-    BadForm,
-    Dropped,
-    TooLong,
-    OutOfRange,
-    InAutomatic,
-    NoRoom,
-    UnknownKey,
-    Refused(u32),
-    NotStarted,
-}
 
 pub struct Meter {
     pub config: Config,
@@ -286,7 +271,7 @@ fn write(m: Meter, register: usize, z: i32) -> Outcome
 // R of a register.
 fn reset(m: Meter, register: usize) -> Outcome
     requires { ⌜ (1 ≤ register) × (register ≤ 7) ⌝ }
-    ensures { λ r. ⌜ r ≡ outcome Answer.Done (changed m (resetRegister (m .instrument) register)) ⌝ }
+    ensures { λ r. ⌜ r ≡ outcome Done (changed m (resetRegister (m .instrument) register)) ⌝ }
 {
     let n = emptied(m);
     let i = instrument::reset_register(m.instrument, register);
@@ -299,7 +284,7 @@ fn reset(m: Meter, register: usize) -> Outcome
 // VJ.
 fn status(m: Meter, b: u8) -> Outcome
     requires { ⌜ sound m ≡ true ⌝ }
-    ensures { λ r. ⌜ r ≡ outcome Answer.Done (changed m (writeStatus (m .config .analog) (m .instrument) b)) ⌝ }
+    ensures { λ r. ⌜ r ≡ outcome Done (changed m (writeStatus (m .config .analog) (m .instrument) b)) ⌝ }
 {
     let n = emptied(m);
     let config = m.config;
@@ -414,7 +399,7 @@ fn batch_key(m: Meter) -> Outcome
 // Keys 2 to 4, which act as RB, RC and RD do.
 fn reset_key(m: Meter, register: usize) -> Outcome
     requires { ⌜ (1 ≤ register) × (register ≤ 3) ⌝ }
-    ensures { λ r. ⌜ r ≡ outcome Answer.Done (withInstrument m (resetRegister (m .instrument) register)) ⌝ }
+    ensures { λ r. ⌜ r ≡ outcome Done (withInstrument m (resetRegister (m .instrument) register)) ⌝ }
 {
     let i = instrument::reset_register(m.instrument, register);
     Outcome {
@@ -425,7 +410,7 @@ fn reset_key(m: Meter, register: usize) -> Outcome
 
 // Key 5.
 fn alarms_key(m: Meter) -> Outcome
-    ensures { λ r. ⌜ r ≡ outcome Answer.Done (withInstrument m (resetAlarms (m .instrument))) ⌝ }
+    ensures { λ r. ⌜ r ≡ outcome Done (withInstrument m (resetAlarms (m .instrument))) ⌝ }
 {
     let i = instrument::reset_alarms(m.instrument);
     Outcome {

@@ -6,9 +6,9 @@
 mod record;
 mod show;
 
+use answer::Answer;
 use libc::STDERR_FILENO;
 use libc::STDIN_FILENO;
-use meter::Answer;
 use meter::Meter;
 use meter::Outcome;
 use record::Event;

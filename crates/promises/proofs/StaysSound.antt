@@ -1,6 +1,6 @@
 -- The test at the door is harmless. Assumes nothing.
-use mathlib.Core.Path.{_≡_, refl, sym, _∙_}
-use mathlib.Core.Bool.{Bool, true, false, cond, not, _&&_}
+use mathlib.Core.Path.{_≡_, refl}
+use mathlib.Core.Bool.{Bool, true, false, cond}
 use mathlib.Core.List.{List}
 use Prim.Native.Nat.{ℕ, _≤_}
 use native.Mathlib.Omega.{arith}
@@ -32,12 +32,12 @@ use Rattle.instrument.specs.declared.Instrument.{Instrument}
 use Rattle.instrument.specs.declared.Permit.{Permit}
 use Rattle.instrument.specs.declared.Permit.the-variants.{Allowed, OutOfRange, InAutomatic}
 use Rattle.instrument.proofs.Soundness as soundness
 use Rattle.meter.specs.Sound.{canScale, soundConfig, sound}
 use Rattle.meter.specs.Meter.{Step, step, outcome, replied, printReply, withReceiver, fresh, withInstrument, emptied, writeOutcome, carried, addressed, ended, byKind, pressed, sampled, keyed, received}
-use Rattle.meter.specs.Promises.{StaysSound}
-use Rattle.meter.specs.declared.Answer.the-variants.{Done, OtherNode, TooLong, UnknownKey}
+use Rattle.promises.specs.Started.{StaysSound}
+use Rattle.answer.specs.declared.Answer.the-variants.{Done, OtherNode, TooLong, UnknownKey}
 use Rattle.meter.specs.declared.Meter.{Meter}
 use Rattle.meter.proofs.Started.{emptied-sound}
 
 -- ---- power-up
 

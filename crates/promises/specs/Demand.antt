@@ -1,0 +1,27 @@
+-- Demand 1 as a whole: every configuration, sample, key and byte has one of the numbered answers.
+use mathlib.Core.Path.{_≡_}
+use mathlib.Core.Bool.{true}
+use mathlib.Core.List.{List}
+use Prim.Native.Nat.{ℕ}
+use Rattle.config.specs.declared.Config.{Config}
+use Rattle.meter.specs.Meter.{Step}
+use Rattle.meter.specs.declared.Meter.{Meter}
+use Rattle.promises.specs.Calls.{Call, lent, placeOf, result, Allows, answered, possible}
+use Rattle.promises.specs.Rows.{EventRows, PowerUpRows}
+use Rattle.promises.specs.Leaves.{Buffer, Leaves}
+use Rattle.promises.specs.Started.{StaysSound, Reached, Never12}
+
+pub record Demand1 : Type 0 where
+  -- any two outcomes that a contract allows are equal
+  pub one-outcome : (k : Call) (s t : Step) → Allows k s → Allows k t → s ≡ t
+  -- each call gives one of its answers, and no other
+  pub numbered : (k : Call) → possible k (answered k) ≡ true
+  -- the table of answers, row by row
+  pub power-up-rows : (c : Config) → PowerUpRows c
+  pub event-rows : (m : Meter) (buffer : List ℕ) (place : ℕ) → EventRows m buffer place
+  -- what is left as it was
+  pub buffer : (k : Call) → Buffer (lent k) (placeOf k) (result k)
+  pub leaves : (m : Meter) → Leaves m
+  -- no event of any history after an accepted power-up is answered 12
+  pub stays-sound : StaysSound
+  pub never-12 : (m : Meter) → Reached m → Never12 m

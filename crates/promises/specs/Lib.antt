@@ -1,0 +1,5 @@
+pub mod Calls
+pub mod Rows
+pub mod Leaves
+pub mod Started
+pub mod Demand
