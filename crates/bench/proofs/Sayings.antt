@@ -1,13 +1,13 @@
 -- What a line says, over plain values: the tests on the way say which case holds, and what is kept of a line is enough to judge it. Assumes nothing.
-use mathlib.Core.Path.{_≡_, refl, ap, _∙_}
+use mathlib.Core.Path.{_≡_, refl}
 use mathlib.Core.Bool.{Bool, true, false, cond, _&&_}
 use mathlib.Core.List.{List}
 use Prim.Native.Nat.{ℕ, _-_, _≤_, _<_}
 use native.Mathlib.Omega.{arith}
 use lib.Dec.{leb, eqb}
-use lib.ListN.{length, take, drop, getD, length-take}
+use lib.ListN.{length, take, drop, getD}
 use borrow.Author.Tests.{le-leb, lt-leb, eq-eqb, ne-eqb, leb-true, leb-false}
-use Rattle.text.specs.Line.{Heard, bytes, long, heard, kept}
+use Rattle.text.specs.Line.{bytes, long, heard, kept}
 use Rattle.text.proofs.Laws.{rest}
 use Rattle.bench.specs.Grammar.{saidOf, parsed, judged, Payload}
 use Rattle.bench.specs.declared.grammar.Parsed.the-variants.{Bytes, Bad}

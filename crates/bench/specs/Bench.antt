@@ -10,7 +10,6 @@ use Rattle.meter.specs.declared.Outcome.{Outcome}
 use Rattle.bench.specs.Grammar.{parsed}
 use Rattle.bench.specs.declared.grammar.Parsed.{Parsed}
 use Rattle.bench.specs.declared.grammar.Parsed.the-variants.{Sample, Key, Bytes, Bad}
-use Rattle.bench.specs.declared.Said.{Said}
 use Rattle.bench.specs.declared.Said.the-variants.{Answered, Unknown}
 use Rattle.bench.specs.declared.Told.{Told}
 

@@ -1,16 +1,13 @@
 -- What acceptance gives: the facts that the lower crates lean on. Assumes nothing.
-use mathlib.Core.Path.{_≡_, refl, sym, _∙_}
-use mathlib.Core.Bool.{Bool, true, false, not, _&&_}
-use mathlib.Core.List.{List, [], _∷_}
-use Prim.Native.Nat.{ℕ, zero, suc, _+_, _≤_, _<_}
-use native.Mathlib.Numerals.{add-one}
+use mathlib.Core.Path.{_≡_, refl}
+use mathlib.Core.Bool.{true, false, not, _&&_}
+use Prim.Native.Nat.{ℕ, _<_}
 use native.Mathlib.Omega.{arith}
-use lib.IntN.{ℤ, pos, natAbs}
-use lib.ListN.{length, getD, take}
-use lib.Signed.{leZ, ltZ}
+use lib.IntN.{pos, natAbs}
+use lib.ListN.{getD}
 use Rattle.exact.specs.Sign.{eqZ, within}
 use Rattle.exact.specs.Tables.{steps, among}
-use Rattle.exact.proofs.Z.{both, never, from-to, turned-true}
+use Rattle.exact.proofs.Z.{both, from-to, turned-true}
 use Rattle.exact.proofs.Table.{among-rule}
 use Rattle.reading.specs.Reading.{inDisplay}
 use Rattle.reading.specs.Reading as scaling

@@ -5,14 +5,12 @@ use mathlib.Core.Bool.{Bool, true, false}
 use mathlib.Core.List.{List, [], _∷_}
 use mathlib.Core.Logic.{_↔_}
 use Prim.Native.Nat.{ℕ, zero, suc, _+_, _<_}
-use native.Mathlib.Nat.{add-zero, add-suc, suc-add}
 use native.Mathlib.Omega.{arith}
 use lib.ListN.{length}
 use Rattle.exact.proofs.Z.{never}
 use Rattle.config.specs.Config.{rules, firstBroken, judged}
 use Rattle.config.specs.Meaning.{keptAt, AllKept, BreaksFirst}
 use Rattle.config.specs.declared.Config.{Config}
-use Rattle.config.specs.declared.Verdict.{Verdict}
 use Rattle.config.specs.declared.Verdict.the-variants.{Accepted, Broken}
 
 -- ---- one rule

@@ -7,11 +7,11 @@ use native.Mathlib.Nat.{add-zero, zero-add, add-suc, suc-add, le-of-suc-le-suc, 
 use native.Mathlib.Numerals.{add-one}
 use native.Mathlib.Omega.{arith}
 use borrow.Author.Tests.{eqb-true}
-use lib.Dec.{T, eqb, leb}
+use lib.Dec.{eqb}
 use lib.ListN.{length, getD, drop}
 use lib.Seq.{drop-cons, drop-length}
 use lib.IntN.{ℤ, pos, natAbs}
-use lib.Signed.{leZ, ltZ}
+use lib.Signed.{leZ}
 use Rattle.exact.specs.Sign.{isNeg, eqZ}
 use Rattle.exact.specs.Tables.{steps, among, powers}
 use Rattle.exact.proofs.Z.{both, never, eqZ-true, from-to}

@@ -212,13 +212,6 @@ eq32 (negsuc m) (pos n) f g = ne-eqb (2 ^ 32 - suc m) n (λ e. omega arith)
 eq32 (negsuc m) (negsuc n) f g =
     eqb-iff (2 ^ 32 - suc m) (2 ^ 32 - suc n) m n (λ e. omega arith) (λ e. omega arith)
 
-pub eq64 : (a b : ℤ) → SFits w64 a → SFits w64 b → eqb (ofZ w64 a) (ofZ w64 b) ≡ eqZ a b
-eq64 (pos m) (pos n) f g = refl
-eq64 (pos m) (negsuc n) f g = ne-eqb m (2 ^ 64 - suc n) (λ e. omega arith)
-eq64 (negsuc m) (pos n) f g = ne-eqb (2 ^ 64 - suc m) n (λ e. omega arith)
-eq64 (negsuc m) (negsuc n) f g =
-    eqb-iff (2 ^ 64 - suc m) (2 ^ 64 - suc n) m n (λ e. omega arith) (λ e. omega arith)
-
 pub eqZ-true : (a b : ℤ) → eqZ a b ≡ true → a ≡ b
 eqZ-true (pos a) (pos b) e = ap pos (eqb-true a b e)
 eqZ-true (pos a) (negsuc b) e = never e

@@ -20,9 +20,6 @@ use Rattle.looking.proofs.Whole.{half-none, kept-none}
 use Rattle.looking.proofs.NoChange.{no-change, read-changes-not, silent-changes-not, no-digit-changes-not, other-changes-not}
 
 module _ (c : Config) (h : History) where
-  gained : (t : Bool) (k : Kept) (ks : List Kept) → t ≡ true → add (cond t (some k) none) ks ≡ k ∷ ks
-  gained t k ks e = rw e
-
   unchanged : (t u : Bool) (k : Kept) (ks : List Kept) → u ≡ false → add (cond (t && u) (some k) none) ks ≡ ks
   unchanged true u k ks e = rw e
   unchanged false u k ks e = refl

@@ -1,7 +1,7 @@
 -- What a started meter shows fits into a line, and into a block. Assumes nothing.
 use mathlib.Core.Path.{_≡_}
-use mathlib.Core.Bool.{Bool, true, false, cond, _&&_, _||_}
-use Prim.Native.Nat.{ℕ, _≤_, _<_}
+use mathlib.Core.Bool.{Bool, true, false, cond, _||_}
+use Prim.Native.Nat.{ℕ, _≤_}
 use native.Mathlib.Omega.{arith}
 use lib.Dec.{eqb}
 use lib.IntN.{pos, natAbs}
@@ -14,7 +14,7 @@ use Rattle.line.specs.Line.{Writable}
 use Rattle.block.specs.Block.{Printable}
 use Rattle.instrument.specs.Shown.{shownAt, placesAt}
 use Rattle.instrument.proofs.Soundness.{passes, shown-size}
-use Rattle.meter.specs.Sound.{sound, Sound}
+use Rattle.meter.specs.Sound.{sound}
 use Rattle.meter.specs.Meter.{style, values}
 use Rattle.meter.specs.declared.Meter.{Meter}
 use Rattle.meter.proofs.Started.{tested}

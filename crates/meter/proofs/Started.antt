@@ -1,8 +1,8 @@
 -- A meter that passes the test at the door has what the inner functions lean on. Assumes nothing.
 use mathlib.Core.Path.{_≡_}
-use mathlib.Core.Bool.{Bool, true, false, not, _&&_}
+use mathlib.Core.Bool.{true, false, not, _&&_}
 use lib.IntN.{pos, natAbs}
-use Rattle.exact.specs.Sign.{isNeg, eqZ, within}
+use Rattle.exact.specs.Sign.{eqZ, within}
 use Rattle.exact.proofs.Z.{both, from-to, turned-true}
 use Rattle.reading.proofs.Scale as scales
 use Rattle.total.specs.Total as totals

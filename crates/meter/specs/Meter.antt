@@ -1,5 +1,5 @@
 -- What each call answers, which meter it leaves, and every byte of the buffer, as document 01 has them.
-use mathlib.Core.Bool.{Bool, true, false, cond}
+use mathlib.Core.Bool.{Bool, false, cond}
 use mathlib.Core.List.{List, [], _∷_}
 use Prim.Native.Nat.{ℕ}
 use lib.Dec.{eqb}

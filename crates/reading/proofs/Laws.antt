@@ -2,23 +2,21 @@
 -- number it gives can be displayed. Assumes nothing.
 use mathlib.Core.Path.{_≡_, refl, sym, ap, _∙_}
 use mathlib.Core.Bool.{Bool, true, false, cond}
-use mathlib.Core.Logic.{_⊎_, inl, inr}
 use mathlib.Core.List.{List}
 use Prim.Native.Nat.{ℕ, zero, suc, _+_, _*_, _-_, _≤_, _<_}
 use native.Mathlib.Omega.{arith}
 use native.Mathlib.Numerals.{add-one}
-use native.Mathlib.Decide.{decLe, decLt}
-use lib.IntN.{ℤ, pos, negsuc, natAbs, _+ℤ_, _-ℤ_, _*ℤ_, +ℤ-invr, +ℤ-idr, +ℤ-comm, -ℤ-+ℤ-cancel, zero-*ℤ, *ℤ-comm}
-use lib.Signed.{leZ, ltZ}
-use Rattle.exact.specs.Sign.{minus, within}
+use lib.IntN.{ℤ, pos, natAbs, _+ℤ_, _-ℤ_, _*ℤ_, +ℤ-invr, +ℤ-idr, +ℤ-comm, -ℤ-+ℤ-cancel, zero-*ℤ, *ℤ-comm}
+use lib.Signed.{ltZ}
+use Rattle.exact.specs.Sign.{minus}
 use Rattle.exact.specs.Exact.{nearest, toStep}
 use Rattle.exact.proofs.Z.{never, within-is, within-not, le-not-lt, not-le, le-refl, lt-le, lt-trans, lt-diff, is-pos, mul-add}
 use Rattle.exact.proofs.Meaning.{nearest-whole, step-one}
-use Rattle.reading.specs.Reading.{inInput, inDisplay, point, segment, line, lineOf, judged, displayed, readingOf, displayable, Accepted}
+use Rattle.reading.specs.Reading.{inDisplay, point, segment, line, lineOf, judged, displayed, readingOf, displayable, Accepted}
 use Rattle.reading.specs.Meaning.{IsSegment}
 use Rattle.reading.proofs.Search.{segment-le, segment-before, segment-at}
 use Rattle.reading.specs.declared.Reading.{Reading}
-use Rattle.reading.specs.declared.Reading.the-variants.{Nothing, Under, Number, Over}
+use Rattle.reading.specs.declared.Reading.the-variants.{Under, Number, Over}
 
 -- ---- a number that is read can be displayed
 

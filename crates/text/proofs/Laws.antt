@@ -14,7 +14,7 @@ use mir.Syntax.{Width, w64}
 use mir.Val.{SFits, hbits, toZ}
 use mir.Facts.{toZ-pos}
 use Rattle.exact.proofs.Z.{never}
-use Rattle.text.specs.Line.{Scanned, scan, keptIn, keptLen, before}
+use Rattle.text.specs.Line.{scan, keptIn, keptLen, before}
 use Rattle.text.specs.Number.{isDigit, digits, value, naturalOf, signed, most, signedOf, numberOf}
 use Rattle.text.specs.Word.{wordEnd}
 use Rattle.text.specs.declared.Natural.{Natural}

@@ -8,14 +8,13 @@ use native.Mathlib.Nat.{pow-succ'}
 use native.Mathlib.Omega.{arith}
 use native.Mathlib.Numerals.{add-one}
 use lib.Dec.{leb, eqb}
-use lib.IntN.{ℤ, pos, negℤ}
-use lib.ListN.{length, drop, getD, length-append}
+use lib.IntN.{ℤ}
+use lib.ListN.{length, getD, length-append}
 use lib.Signed.{mag}
 use borrow.Author.Tests.{le-leb, leb-true, ne-eqb, eqb-true}
-use Rattle.exact.proofs.Z.{never, both}
+use Rattle.exact.proofs.Z.{both}
 use Rattle.text.specs.Number.{isDigit, digits, value, naturalOf, signed, most, signedOf, numberOf, spelled, withMinus, Digits, Written}
 use Rattle.text.specs.declared.Natural.{Natural}
-use Rattle.text.specs.declared.Number.{Number}
 use Rattle.text.specs.declared.Natural.the-variants as natural
 use Rattle.text.specs.declared.Number.the-variants as number
 

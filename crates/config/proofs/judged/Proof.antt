@@ -1,15 +1,13 @@
 -- `config::judged` meets its contract: past each rule that is kept the verdict is that of the rules behind it, and at one that is
 -- broken it is that rule's number. Assumes nothing.
 use borrow.Author.Needs.{needs}
-use mathlib.Core.Path.{_≡_, refl, sym, _∙_}
-use mathlib.Core.Bool.{Bool, true, false, not}
+use mathlib.Core.Path.{_≡_, sym, _∙_}
 use lib.ListN.{drop}
 use mir.Syntax.{w32}
 use mir.Val.{toZ, ofZ}
 use Rattle.exact.proofs.Z.{turned-true, turned-false}
 use Rattle.config.specs.Config.{nodeRule, placesRule, stepRule, countRule, pointsRule, totalRule, lowCutRule, alarmsRule, captureRule, analogRule, rules, firstBroken, judged}
 use Rattle.config.specs.declared.Config.{Config}
-use Rattle.config.specs.declared.Verdict.the-variants.{Broken}
 use Rattle.config.proofs.Verdicts.{passes, breaks}
 use Rattle.config.proofs.judged.Statement.{statement}
 use Rattle.config.proofs.judged.Tie as tie

@@ -1,8 +1,7 @@
 -- `exact::cut` meets its contract: the machine's quotient is the definition's, and no larger than the dividend. Assumes nothing.
-use mathlib.Core.Path.{_∙_}
 use mir.Syntax.{w64}
 use mir.Facts.{toZ-ofZ}
-use Rattle.exact.proofs.Z.{fits-as, rd, divisor}
+use Rattle.exact.proofs.Z.{rd, divisor}
 use Rattle.exact.proofs.Quotients.{quotient-cut, cut-fits}
 use Rattle.exact.proofs.cut.Statement.{statement}
 use Rattle.exact.proofs.cut.Tie as tie

@@ -1,13 +1,12 @@
 -- `exact::floor` meets its contract: on each side of zero the machine's quotient leads to the definition's number. Assumes nothing.
-use mathlib.Core.Path.{_≡_, sym, _∙_}
-use mathlib.Core.Bool.{true, false}
-use lib.IntN.{pos, natAbs, _+ℤ_, _-ℤ_}
+use mathlib.Core.Path.{_≡_, _∙_}
+use mathlib.Core.Bool.{true}
+use lib.IntN.{pos, natAbs, _+ℤ_}
 use lib.Signed.{quotZ}
 use mir.Syntax.{w64}
 use mir.Val.{SFits}
 use mir.Facts.{toZ-ofZ}
 use Rattle.exact.specs.Sign.{isNeg}
-use Rattle.exact.specs.Exact.{floor, cut}
 use Rattle.exact.proofs.Z.{fits-as, rd, divisor, neg-is}
 use Rattle.exact.proofs.Quotients.{quotient-cut, cut-fits, quotient-floor, floor-cut, floor-fits, raised-fits}
 use Rattle.exact.proofs.floor.Statement.{statement}

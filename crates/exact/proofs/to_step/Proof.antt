@@ -1,5 +1,4 @@
 -- `exact::to_step` meets its contract: the nearest multiple is at most half a step farther out than v, so the product fits. Assumes nothing.
-use borrow.Author.Needs.{needs}
 use native.Mathlib.Omega.{arith}
 use mathlib.Core.Path.{_≡_, ap}
 use lib.IntN.{ℤ, natAbs, _*ℤ_}

@@ -8,9 +8,6 @@ use Rattle.field.specs.Field.{fraction}
 use Rattle.field.proofs.Right.{fraction-length, point-put, right-nil}
 use Rattle.field.proofs.put_fraction.Statement.{statement}
 use Rattle.field.proofs.put_fraction.Tie as tie
-use Rattle.field.proofs.put_fraction.Reads as reads
-use Rattle.field.proofs.put_fraction.Lts as lts
-use Rattle.field.proofs.put_digits.Reads as put-digits-reads
 
 -- src/lib.rt:53:9
 returns : tie.Need-returns

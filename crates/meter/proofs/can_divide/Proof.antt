@@ -1,6 +1,6 @@
 -- `meter::can_divide` meets its contract: the time base as it is given, and a test of the bits that is one of the numbers. Assumes nothing.
 use borrow.Author.Needs.{needs}
-use mathlib.Core.Path.{_≡_, sym, _∙_}
+use mathlib.Core.Path.{_≡_}
 use mir.Syntax.{w32}
 use mir.Val.{SFits, toZ, ofZ}
 use Rattle.exact.proofs.Z.{eq32}

@@ -1,6 +1,6 @@
 -- `meter::carry_out` meets its contract: each thing that can be asked has its own function, and its register is within that one's reach. Assumes nothing.
 use borrow.Author.Needs.{needs}
-use mathlib.Core.Path.{_≡_, refl, sym, _∙_}
+use mathlib.Core.Path.{_≡_, refl}
 use mir.Syntax.{w32}
 use mir.Val.{toZ, ofZ}
 use Rattle.meter.proofs.Started.{emptied-sound}

@@ -1,6 +1,6 @@
 -- `meter::config_sound` meets its contract: the three tests, put together. Assumes nothing.
 use borrow.Author.Needs.{needs}
-use mathlib.Core.Path.{_≡_, sym, _∙_}
+use mathlib.Core.Path.{_≡_}
 use mir.Syntax.{w32}
 use mir.Val.{toZ, ofZ}
 use Rattle.meter.specs.Sound.{soundConfig}

@@ -2,15 +2,14 @@
 use borrow.Author.Needs.{needs}
 use borrow.Author.Tests.{ltb-false, eq-eqb, ne-eqb}
 use mathlib.Core.Path.{_≡_, refl, sym, ap, _∙_}
-use mathlib.Core.Bool.{Bool, true, false}
-use lib.Dec.{eqb}
+use mathlib.Core.Bool.{false}
 use lib.IntN.{natAbs}
 use lib.ListN.{take}
 use mir.Syntax.{w32}
 use mir.Val.{toZ, ofZ}
 use Rattle.receiver.specs.Receiver.{over}
 use Rattle.command.specs.Parse.{parse}
-use Rattle.command.specs.declared.Parsed.the-variants.{NoNode, To}
+use Rattle.command.specs.declared.Parsed.the-variants.{To}
 use Rattle.form.proofs.Understood.{understood}
 use Rattle.meter.proofs.Started.{tested}
 use Rattle.meter.proofs.end.Statement.{statement}

@@ -1,6 +1,6 @@
 -- `meter::is_sound` meets its contract: the two tests, the second where the first passes. Assumes nothing.
 use borrow.Author.Needs.{needs}
-use mathlib.Core.Path.{_≡_, sym, _∙_}
+use mathlib.Core.Path.{sym, _∙_}
 use Rattle.meter.specs.Sound.{sound}
 use Rattle.meter.proofs.Started.{base-of}
 use Rattle.meter.proofs.is_sound.Statement.{statement}

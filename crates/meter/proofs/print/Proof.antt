@@ -1,6 +1,6 @@
 -- `meter::print` meets its contract: what is shown fits a block, and the block is written as a whole reply. Assumes nothing.
 use borrow.Author.Needs.{needs}
-use mathlib.Core.Path.{_≡_, refl, sym, _∙_}
+use mathlib.Core.Path.{_≡_, _∙_}
 use mir.Syntax.{w32}
 use mir.Val.{toZ, ofZ}
 use Rattle.block.specs.Block.{block}

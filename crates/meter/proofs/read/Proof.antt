@@ -1,9 +1,8 @@
 -- `meter::read` meets its contract: what is shown fits a line, and the line is written as a whole reply. Assumes nothing.
 use borrow.Author.Needs.{needs}
-use mathlib.Core.Path.{_≡_, refl, sym, _∙_}
+use mathlib.Core.Path.{_≡_, _∙_}
 use mir.Syntax.{w32}
 use mir.Val.{toZ, ofZ}
-use Rattle.instrument.specs.Shown.{shownAt, placesAt}
 use Rattle.line.specs.Line.{line}
 use Rattle.meter.specs.Meter.{style, readReply}
 use Rattle.meter.proofs.Started.{tested}

@@ -1,6 +1,6 @@
 -- `meter::receive` meets its contract: what kind of byte it is decides. Assumes nothing.
 use borrow.Author.Needs.{needs}
-use mathlib.Core.Path.{_≡_, refl, sym, _∙_}
+use mathlib.Core.Path.{refl, sym, _∙_}
 use Rattle.meter.proofs.receive.Statement.{statement}
 use Rattle.meter.proofs.receive.Tie as tie
 

@@ -1,5 +1,4 @@
 -- `meter::style` meets its contract: the node goes on as it came. Assumes nothing.
-use borrow.Author.Needs.{needs}
 use mir.Facts.{toZ-ofZ}
 use Rattle.meter.proofs.style.Statement.{statement}
 use Rattle.meter.proofs.style.Tie as tie

@@ -1,8 +1,6 @@
 -- `meter::write` meets its contract: what the permit says is the case that is answered. Assumes nothing.
 use borrow.Author.Needs.{needs}
 use mathlib.Core.Path.{_≡_, sym, _∙_}
-use mir.Syntax.{w32}
-use mir.Val.{toZ, ofZ}
 use mir.Facts.{toZ-ofZ}
 use Rattle.instrument.specs.Instrument.{permit}
 use Rattle.meter.proofs.write.Statement.{statement}

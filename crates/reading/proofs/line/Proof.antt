@@ -1,5 +1,4 @@
 -- `reading::line` meets its contract: each step of the fraction fits, so the fraction that is rounded is the definition's. Assumes nothing.
-use borrow.Author.Needs.{needs}
 use mathlib.Core.Path.{_∙_}
 use mir.Facts.{toZ-ofZ}
 use Rattle.exact.proofs.Z.{widens, widened, back64}

@@ -1,6 +1,6 @@
 -- `replay::fill` is safe and ends: what is left of the buffer becomes less. Assumes nothing.
 use native.Mathlib.Omega.{arith}
-use mathlib.Core.Path.{_≡_, refl, _∙_}
+use mathlib.Core.Path.{_≡_, refl}
 use Prim.Native.Nat.{_≤_, _-_}
 use lib.ListN.{length, length-set}
 use Rattle.replay.proofs.fill.Statement.{statement}

@@ -3,8 +3,8 @@ use borrow.Author.Needs.{needs}
 use native.Mathlib.Omega.{arith}
 use mathlib.Core.Path.{_≡_, refl, sym, ap, _∙_}
 use borrow.Author.Tests.{eq-eqb, ne-eqb}
-use Prim.Native.Nat.{ℕ, _≤_, _+_, _-_}
-use lib.ListN.{length, drop, getD}
+use Prim.Native.Nat.{_≤_, _-_}
+use lib.ListN.{length, drop}
 use Rattle.text.specs.Line.{scan, Scanned}
 use Rattle.text.proofs.Laws.{scan-lf, scan-on, scan-out}
 use Rattle.text.proofs.feed.Statement.{statement}

@@ -1,6 +1,6 @@
 -- `meter::Meter::byte` meets its contract: the test at the door decides. Assumes nothing.
 use borrow.Author.Needs.{needs}
-use mathlib.Core.Path.{_≡_, refl, sym, _∙_}
+use mathlib.Core.Path.{refl, sym, _∙_}
 use Rattle.meter.proofs.Meter.byte.Statement.{statement}
 use Rattle.meter.proofs.Meter.byte.Tie as tie
 

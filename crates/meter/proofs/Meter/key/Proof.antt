@@ -1,6 +1,6 @@
 -- `meter::Meter::key` meets its contract: the test at the door decides. Assumes nothing.
 use borrow.Author.Needs.{needs}
-use mathlib.Core.Path.{_≡_, refl, sym, _∙_}
+use mathlib.Core.Path.{refl, sym, _∙_}
 use mir.Facts.{toZ-ofZ}
 use Rattle.meter.proofs.Meter.key.Statement.{statement}
 use Rattle.meter.proofs.Meter.key.Tie as tie

@@ -1,6 +1,6 @@
 -- `meter::Meter::power_up` meets its contract: the verdict decides. Assumes nothing.
 use borrow.Author.Needs.{needs}
-use mathlib.Core.Path.{_≡_, refl, sym, _∙_}
+use mathlib.Core.Path.{sym, _∙_}
 use Rattle.meter.proofs.Meter.power_up.Statement.{statement}
 use Rattle.meter.proofs.Meter.power_up.Tie as tie
 

@@ -1,6 +1,6 @@
 -- `meter::Meter::sample` meets its contract: the test at the door decides. Assumes nothing.
 use borrow.Author.Needs.{needs}
-use mathlib.Core.Path.{_≡_, refl, sym, _∙_}
+use mathlib.Core.Path.{sym, _∙_}
 use mir.Facts.{toZ-ofZ}
 use Rattle.meter.proofs.Meter.sample.Statement.{statement}
 use Rattle.meter.proofs.Meter.sample.Tie as tie
