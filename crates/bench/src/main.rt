@@ -10,6 +10,7 @@ ghost use mathlib.Core.Bool.{cond};
 ghost use mathlib.Core.List.{List};
 ghost use lib.Dec.{eqb};
 ghost use lib.ListN.{length, drop, take};
+ghost use Rattle.config.specs.Bench.{benchMeter};
 ghost use Rattle.text.specs.Line.{heard, Stands, Ran};
 ghost use Rattle.bench.specs.Grammar.{Payload};
 ghost use Rattle.bench.specs.Bench.{keyStep, byteStep, bytesStep, asTold, effect, stand, heardBy};
@@ -256,7 +257,9 @@ fn run(
 // ---- the meter
 
 // The bench meter of document 01.
-fn bench_config() -> Config {
+fn bench_config() -> Config
+    ensures { λ r. ⌜ r ≡ benchMeter ⌝ }
+{
     let settings = Settings {
         hysteresis: 1,
         on_delay: 0,

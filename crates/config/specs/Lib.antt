@@ -1,2 +1,3 @@
 pub mod Config
 pub mod Meaning
+pub mod Bench

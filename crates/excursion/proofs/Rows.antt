@@ -7,27 +7,20 @@ use native.Mathlib.Omega.{arith}
 use lib.IntN.{ℤ, pos}
 use lib.ListN.{replicate}
 use Rattle.exact.specs.Exact.{halfUp, nearest, toStep}
-use Rattle.exact.specs.Tables.{among}
 use Rattle.reading.specs.Reading as readings
 use Rattle.run.specs.Run.{samples, counted}
 use Rattle.alarm.specs.Alarm as alarms
 use Rattle.alarm.specs.Alarm.{alarm}
 use Rattle.alarm.specs.declared.Alarm.{Alarm}
-use Rattle.config.specs.Config as configs
-use Rattle.config.specs.declared.Verdict.the-variants.{Accepted}
-use Rattle.register.specs.Registers.{entry, index}
-use Rattle.command.specs.Parse as commands
 use Rattle.command.specs.declared.Asked.the-variants.{Read}
-use Rattle.command.specs.declared.Parsed.the-variants.{To}
-use Rattle.form.proofs.Meaning.{asked}
+use Rattle.config.specs.Bench.{high}
 use Rattle.instrument.specs.Instrument.{alarmAt, read}
 use Rattle.instrument.specs.declared.Instrument.{Instrument}
 use Rattle.looking.specs.History.{History, sample}
 use Rattle.looking.specs.Kept.{kept}
 use Rattle.looking.specs.Given.{given}
-use Rattle.looking.specs.Sent.{Reads}
-use Rattle.looking.specs.Sent as sent
-use Rattle.looking.specs.Polls.{poll, polls, polled, settings, bench, asking, excursion, lit}
+use Rattle.looking.specs.Polls.{poll, polls, polled, bench, asking, excursion, lit}
+use Rattle.looking.proofs.OffDelay.{accepted, reads}
 use Rattle.looking.proofs.Sound.{demand-3}
 use Rattle.excursion.specs.Old.{oldAlarm, oldLit}
 use Rattle.excursion.specs.Rows.{Rows}
@@ -37,17 +30,6 @@ abbrev inputs : ℕ → List ℤ
 inputs k = replicate k (pos 40) ++ pos 60 ∷ []
 
 -- ── this core ──
-
-accepted : configs.judged bench ≡ Accepted
-unfolding configs.judged configs.firstBroken configs.rules configs.alarmsRule configs.alarmRule among readings.pointsIn readings.upTo
-accepted = refl
-
-asks : commands.parse asking ≡ To 5 (Read 4)
-unfolding commands.parse commands.first-digit commands.second-digit commands.body commands.reading commands.sole index entry
-asks = refl
-
-reads : Reads asking 5 (Read 4)
-reads = sent.read (asked asking 5 (Read 4) .1 (asks, λ e. let z : _≡_ {A = ℕ} 0 1 = cc in omega arith))
 
 same : (n k : ℕ) → lit n k ≡ lit 0 k
 same n k = ap (λ (i : Instrument). alarmAt (i .alarms) 0 .on) (demand-3 .polls bench accepted asking (Read 4) reads n (inputs k))
@@ -73,7 +55,7 @@ unfolding readings.readingOf readings.displayed readings.judged readings.line re
 opened = tt
 
 abbrev sampled : Alarm → ℤ → Alarm
-sampled a x = alarms.sampled (settings (pos 2)) a (read bench x)
+sampled a x = alarms.sampled (high (pos 0) (pos 2)) a (read bench x)
 
 abbrev on : ℕ → Alarm
 on r = alarm (pos 100) true r

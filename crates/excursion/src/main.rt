@@ -15,10 +15,11 @@ use reading::Reading;
 use total::Totalizer;
 ghost use mathlib.Core.Path.{_≡_};
 ghost use mathlib.Core.List.{_∷_};
-ghost use lib.IntN.{ℤ};
+ghost use lib.IntN.{ℤ, pos};
 ghost use Rattle.instrument.specs.Instrument.{alarmAt, read};
 ghost use Rattle.looking.specs.History.{History, sample, byte, run};
-ghost use Rattle.looking.specs.Polls.{lent, poll, polls, settings, bench, asking, excursion, lit};
+ghost use Rattle.config.specs.Bench.{high};
+ghost use Rattle.looking.specs.Polls.{lent, poll, polls, bench, asking, excursion, lit};
 ghost use Rattle.excursion.specs.Old.{oldAlarm, oldLit};
 ghost use Rattle.excursion.specs.Row.{digit, rowOf};
 
@@ -26,7 +27,7 @@ ghost use Rattle.excursion.specs.Row.{digit, rowOf};
 
 // An alarm with an off delay of so many tenths.
 fn settings(off_delay: i32) -> Settings
-    ensures { λ r. ⌜ r ≡ settings «off_delay» ⌝ }
+    ensures { λ r. ⌜ r ≡ high (pos 0) «off_delay» ⌝ }
 {
     Settings {
         hysteresis: 1,

@@ -39,7 +39,7 @@ use Rattle.looking.specs.Polls.{bench, asking, excursion, lit, InTime, O
 use Rattle.looking.proofs.Polls.{polls-unmoved}
 
 -- the configuration is accepted
-accepted : configs.judged bench ≡ Accepted
+pub accepted : configs.judged bench ≡ Accepted
 unfolding configs.judged configs.firstBroken configs.rules configs.alarmsRule configs.alarmRule among readings.pointsIn readings.upTo
 accepted = refl
 
@@ -48,7 +48,7 @@ asks : commands.parse asking ≡ To 5 (Read 4)
 unfolding commands.parse commands.first-digit commands.second-digit commands.body commands.reading commands.sole index entry
 asks = refl
 
-reads : Reads asking 5 (Read 4)
+pub reads : Reads asking 5 (Read 4)
 reads = read (asked asking 5 (Read 4) .1 (asks, λ e. let z : _≡_ {A = ℕ} 0 1 = cc in omega arith))
 
 -- ── computed ──

@@ -5,8 +5,7 @@ use mathlib.Core.List.{List, [], _∷_, _++_}
 use Prim.Native.Nat.{ℕ, zero, suc}
 use lib.IntN.{ℤ, pos}
 use lib.ListN.{replicate}
-use Rattle.exact.specs.Sign.{minus}
-use Rattle.alarm.specs.declared.Settings.{Settings}
+use Rattle.config.specs.Bench.{high, meterOf}
 use Rattle.config.specs.declared.Config.{Config}
 use Rattle.register.specs.Bytes.{byte as char, ascii}
 use Rattle.command.specs.declared.Asked.{Asked}
@@ -39,29 +38,8 @@ Unmoved c = (s : List ℕ) (a : Asked) → Reads s (nodeOf c) a → (n : ℕ) (x
 -- ── an off delay ──
 
 -- the bench meter, with an off delay of 2 tenths, which is 4 samples, on its first alarm
-abbrev pub settings : ℤ → Settings
-settings off = record { hysteresis = pos 1; «on_delay» = pos 0; «off_delay» = off; «low_acting» = false; latched = false }
-
 abbrev pub bench : Config
-bench =
-    record {
-      node = pos 5;
-      places = record { input = pos 1; total = pos 0 };
-      scale =
-          record {
-            step = pos 1;
-            count = pos 2;
-            inputs = pos 0 ∷ pos 1000 ∷ replicate 14 (pos 0);
-            displays = pos 0 ∷ pos 2000 ∷ replicate 14 (pos 0);
-          };
-      totalizer = record { batch = false; «low_cut» = minus 19999; factor = pos 1000; «time_base» = pos 60 };
-      setpoints = pos 100 ∷ pos 200 ∷ pos 300 ∷ pos 400 ∷ [];
-      alarms = settings (pos 2) ∷ settings (pos 0) ∷ settings (pos 0) ∷ settings (pos 0) ∷ [];
-      capture = pos 0;
-      analog = record { low = pos 0; high = pos 10000 };
-      abbreviated = false;
-      print = record { input = false; extremes = false; total = false; setpoints = false };
-    }
+bench = meterOf 5 1 (0, 0) (1000, 2000) (high (pos 0) (pos 2))
 
 -- the first setpoint is asked for
 abbrev pub asking : List ℕ

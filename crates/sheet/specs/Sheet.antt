@@ -1,7 +1,6 @@
 -- Document 01's bench sheet: every case marked ●, in its order, in one table with one claim. A case powers a meter up, gives it samples
 -- or strings, and says the last answer and what T then shows. The meter is that of the definitions that the public calls' contracts cite.
 use mathlib.Core.Path.{_≡_}
-use mathlib.Core.Bool.{false}
 use mathlib.Core.List.{List, [], _∷_, map}
 use Prim.Native.Nat.{ℕ, zero, suc}
 use Prim.Native.String.{String}
@@ -11,7 +10,7 @@ use Rattle.answer.specs.Answer.{number}
 use Rattle.exact.specs.Sign.{minus}
 use Rattle.reading.specs.declared.Reading.{Reading}
 use Rattle.reading.specs.declared.Reading.the-variants.{Number, Over}
-use Rattle.alarm.specs.declared.Settings.{Settings}
+use Rattle.config.specs.Bench.{high, undelayed, meterOf}
 use Rattle.config.specs.declared.Config.{Config}
 use Rattle.register.specs.Bytes.{byte, ascii}
 use Rattle.register.specs.Registers.{index}
@@ -22,35 +21,10 @@ use Rattle.meter.specs.declared.Outcome.{Outcome}
 
 -- ---- the meters of the sheet
 
--- the settings of an alarm: high acting, with an on delay in tenths of a second
-abbrev high : ℕ → Settings
-high delay = record { hysteresis = pos 1; «on_delay» = pos delay; «off_delay» = pos 0; «low_acting» = false; latched = false }
-
--- the bench program's meter, with a node, a rounding step, two scaling points and the on delay of alarm 1 as given
-abbrev bench : (node step : ℕ) (first second : ℕ × ℕ) (delay : ℕ) → Config
-bench node step first second delay =
-    record {
-      node = pos node;
-      places = record { input = pos 1; total = pos 0 };
-      scale =
-          record {
-            step = pos step;
-            count = pos 2;
-            inputs = pos (first .0) ∷ pos (second .0) ∷ replicate 14 (pos 0);
-            displays = pos (first .1) ∷ pos (second .1) ∷ replicate 14 (pos 0);
-          };
-      totalizer = record { batch = false; «low_cut» = minus 19999; factor = pos 1000; «time_base» = pos 60 };
-      setpoints = pos 100 ∷ pos 200 ∷ pos 300 ∷ pos 400 ∷ [];
-      alarms = high delay ∷ high 0 ∷ high 0 ∷ high 0 ∷ [];
-      capture = pos 0;
-      analog = record { low = pos 0; high = pos 10000 };
-      abbreviated = false;
-      print = record { input = false; extremes = false; total = false; setpoints = false };
-    }
-
--- where a line of the sheet does not say otherwise, the node is 5, the step 1, no alarm has a delay, and a reading is its input
+-- each is the bench meter with some settings as a line of the sheet says. Where the line does not say otherwise, the node is 5, the
+-- step 1, no alarm has a delay, and a reading is its input
 abbrev scale : ℕ → ℕ × ℕ → ℕ × ℕ → Config
-scale s first second = bench 5 s first second 0
+scale s first second = meterOf 5 s first second undelayed
 
 abbrev points : ℕ × ℕ → ℕ × ℕ → Config
 points first second = scale 1 first second
@@ -59,10 +33,10 @@ abbrev step : ℕ → Config
 step s = scale s (0, 0) (1000, 1000)
 
 abbrev onDelay : ℕ → Config
-onDelay tenths = bench 5 1 (0, 0) (1000, 1000) tenths
+onDelay tenths = meterOf 5 1 (0, 0) (1000, 1000) (high (pos tenths) (pos 0))
 
 abbrev node : ℕ → Config
-node k = bench k 1 (0, 0) (1000, 1000) 0
+node k = meterOf k 1 (0, 0) (1000, 1000) undelayed
 
 -- ---- what happens to a meter
 

@@ -1,0 +1,44 @@
+-- Document 01's bench meter, which the bench program, its sheet and the worked example take with small changes.
+use mathlib.Core.Bool.{false}
+use mathlib.Core.List.{[], _∷_}
+use Prim.Native.Nat.{ℕ}
+use lib.IntN.{ℤ, pos}
+use lib.ListN.{replicate}
+use Rattle.exact.specs.Sign.{minus}
+use Rattle.alarm.specs.declared.Settings.{Settings}
+use Rattle.config.specs.declared.Config.{Config}
+
+-- high acting, hysteresis 1, with delays in tenths of a second
+abbrev pub high : (on off : ℤ) → Settings
+high on off = record { hysteresis = pos 1; «on_delay» = on; «off_delay» = off; «low_acting» = false; latched = false }
+
+abbrev pub undelayed : Settings
+undelayed = high (pos 0) (pos 0)
+
+-- one place for input and none for total, factor 1,000, base 60, low cut -19,999, setpoints 100, 200, 300 and 400, no capture time,
+-- analog 0 to 10,000, every yes/no setting no. Node, step, the two points in use and the settings of alarm 1 are as given, and the
+-- other alarms have no delay
+abbrev pub meterOf : (node step : ℕ) (first second : ℕ × ℕ) (firstAlarm : Settings) → Config
+meterOf node step first second firstAlarm =
+    record {
+      node = pos node;
+      places = record { input = pos 1; total = pos 0 };
+      scale =
+          record {
+            step = pos step;
+            count = pos 2;
+            inputs = pos (first .0) ∷ pos (second .0) ∷ replicate 14 (pos 0);
+            displays = pos (first .1) ∷ pos (second .1) ∷ replicate 14 (pos 0);
+          };
+      totalizer = record { batch = false; «low_cut» = minus 19999; factor = pos 1000; «time_base» = pos 60 };
+      setpoints = pos 100 ∷ pos 200 ∷ pos 300 ∷ pos 400 ∷ [];
+      alarms = firstAlarm ∷ undelayed ∷ undelayed ∷ undelayed ∷ [];
+      capture = pos 0;
+      analog = record { low = pos 0; high = pos 10000 };
+      abbreviated = false;
+      print = record { input = false; extremes = false; total = false; setpoints = false };
+    }
+
+-- the meter of the bench program: node 5, step 1, points (0,0) and (1000,2000), no delay
+abbrev pub benchMeter : Config
+benchMeter = meterOf 5 1 (0, 0) (1000, 2000) undelayed
