@@ -3,7 +3,6 @@ use Rattle.looking.specs.StaysSound.{StaysSound}
 use Rattle.looking.specs.Demand.{Demand3}
 use Rattle.looking.proofs.Pinned.{pinned}
 use Rattle.looking.proofs.Looking.{looking}
-use Rattle.looking.proofs.CarriedOut.{carries-out}
 use Rattle.looking.proofs.Polls.{polls-unmoved}
 use Rattle.looking.proofs.OffDelay.{off-delay}
 
@@ -14,5 +13,4 @@ from-sound stays =
       pinned = pinned;
       polls = polls-unmoved stays;
       off-delay = off-delay stays;
-      carries-out = carries-out;
     }

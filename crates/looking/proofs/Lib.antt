@@ -10,7 +10,6 @@ pub mod Unmoved
 pub mod Replay
 pub mod Asking
 pub mod Looking
-pub mod CarriedOut
 pub mod Polls
 pub mod OffDelay
 pub mod Demand

@@ -7,7 +7,6 @@ use Rattle.looking.specs.History.{History}
 use Rattle.looking.specs.Pinned.{Pinned}
 use Rattle.looking.specs.Looking.{Looking}
 use Rattle.looking.specs.Polls.{Unmoved, OffDelay}
-use Rattle.looking.specs.CarriedOut.{CarriesOut}
 
 pub record Demand3 : Type 0 where
   -- looking changes nothing, under every accepted configuration
@@ -17,5 +16,3 @@ pub record Demand3 : Type 0 where
   -- polls, and the example: an off delay is not lengthened by them
   pub polls : (c : Config) → judged c ≡ Accepted → Unmoved c
   pub off-delay : OffDelay
-  -- events that are carried out from slices make a history
-  pub carries-out : (c : Config) → CarriesOut c

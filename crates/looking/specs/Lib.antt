@@ -6,6 +6,5 @@ pub mod Sent
 pub mod Inserted
 pub mod StaysSound
 pub mod Looking
-pub mod CarriedOut
 pub mod Polls
 pub mod Demand

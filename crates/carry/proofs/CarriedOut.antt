@@ -1,5 +1,5 @@
 -- Entries carried out one after another give back what the history that they make gives back.
-use mathlib.Core.Path.{_≡_, refl, ap}
+use mathlib.Core.Path.{_≡_, refl, ap, _∙_}
 use mathlib.Core.Bool.{Bool, true, false, cond, _&&_}
 use mathlib.Core.List.{List, [], _∷_}
 use mathlib.Core.Option.{none, some}
@@ -13,8 +13,9 @@ use lib.Seq.{drop-cons}
 use Rattle.config.specs.declared.Config.{Config}
 use Rattle.meter.specs.Meter.{Step, sampled, keyed, received}
 use Rattle.meter.specs.declared.Outcome.{Outcome}
 use Rattle.looking.specs.History.{sample, key, byte, History, outcomeOf, lastOutcome}
-use Rattle.looking.specs.CarriedOut.{isByte, carriedOne, carriedOut, encoded, behind, historyOf, CarriesOut}
+use Rattle.looking.proofs.Sound.{demand-3}
+use Rattle.carry.specs.CarriedOut.{isByte, carriedOne, carriedOut, encoded, behind, historyOf, CarriesOut}
 
 module _ (c : Config) where
   one-by : (h : History) (o : Step) (value : ℤ) (place : ℕ) (t u v : Bool) → o .outcome ≡ lastOutcome c h
@@ -45,7 +46,13 @@ module _ (c : Config) where
       as-history (behind (encoded (o .buffer) kind value place) h) (carriedOne o kind value place) kinds values places (one h o kind value place e)
 
   pub carries-out : CarriesOut c
-  carries-out = record { as-history = as-history }
+  carries-out =
+      record {
+        as-history = as-history;
+        holds =
+            λ a h o kinds values places e.
+            ap (λ (p : Outcome). p .meter .instrument) (as-history h o kinds values places e) ∙ demand-3 .looking c a .holds (historyOf h o kinds values places);
+      }
 
 -- ── what a loop over the slices leans on ──
 

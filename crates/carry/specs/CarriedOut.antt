@@ -7,9 +7,13 @@ use Prim.Native.Nat.{ℕ}
 use lib.Dec.{eqb}
 use lib.IntN.{ℤ, pos, natAbs}
 use Rattle.exact.specs.Sign.{within}
+use Rattle.config.specs.Config.{judged}
 use Rattle.config.specs.declared.Config.{Config}
+use Rattle.config.specs.declared.Verdict.the-variants.{Accepted}
 use Rattle.meter.specs.Meter.{Step, sampled, keyed, received}
 use Rattle.looking.specs.History.{Event, sample, key, byte, History, lastOutcome}
+use Rattle.looking.specs.Kept.{kept}
+use Rattle.looking.specs.Given.{given}
 
 -- a value that is a byte
 abbrev pub isByte : ℤ → Bool
@@ -55,7 +59,10 @@ historyOf h o (kind ∷ kinds) (value ∷ values) (place ∷ places) =
 
 -- ── what is claimed ──
 
--- entries carried out after h give back what the history's last call gives back, and so leave the history's meter
 pub record CarriesOut (c : Config) : Type 0 where
+  -- entries carried out after h give back what the history's last call gives back, and so leave the history's meter
   pub as-history : (h : History) (o : Step) (kinds : List ℕ) (values : List ℤ) (places : List ℕ) → o .outcome ≡ lastOutcome c h
       → carriedOut o kinds values places .outcome ≡ lastOutcome c (historyOf h o kinds values places)
+  -- so under an accepted configuration the instrument is what is kept of that history gives
+  pub holds : judged c ≡ Accepted → (h : History) (o : Step) (kinds : List ℕ) (values : List ℤ) (places : List ℕ) → o .outcome ≡ lastOutcome c h
+      → carriedOut o kinds values places .outcome .meter .instrument ≡ given c (kept c (historyOf h o kinds values places))
