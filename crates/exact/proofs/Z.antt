@@ -128,9 +128,6 @@ pub and-false : (t : Bool) → (t && false) ≡ false
 and-false true = refl
 and-false false = refl
 
-pub false-and : {t : Bool} (u : Bool) → t ≡ false → (t && u) ≡ false
-false-and u e = rw e
-
 -- a test that is turned round
 pub turned-true : (t : Bool) → not t ≡ true → t ≡ false
 turned-true true e = never e

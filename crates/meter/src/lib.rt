@@ -17,14 +17,17 @@ use instrument::Instrument;
 use instrument::Permit;
 use line::Style;
 use line::Written;
+use reading::Reading;
 use receiver::Kind;
 use receiver::Receiver;
 use total::Totalizer;
 ghost use mathlib.Core.Path.{_≡_};
-ghost use mathlib.Core.Bool.{true};
+ghost use mathlib.Core.Bool.{true, false};
 ghost use Prim.Native.Nat.{_≤_};
 ghost use lib.IntN.{natAbs};
 ghost use Rattle.answer.specs.declared.Answer.the-variants.{Done};
+ghost use Rattle.exact.specs.Sign.{isNeg};
+ghost use Rattle.reading.specs.Reading.{Accepted, readingOf};
 ghost use Rattle.total.specs.Total as totals;
 ghost use Rattle.config.specs.Config.{nodeRule, placesRule};
 ghost use Rattle.form.specs.Understood.{Permitted};
@@ -495,20 +498,25 @@ fn no_config() -> Config
     }
 }
 
+// The reading of an input on a scale. The scale goes in alone, since points that are lent are lent out of a copy of all that was handed
+// over with them.
+fn reading_on(s: Scale, input: i32) -> Reading
+    requires { ⌜ isNeg (s .count) ≡ false ⌝ }
+    requires { ⌜ Accepted (s .inputs) (s .displays) (natAbs (s .count)) (s .step) ⌝ }
+    ensures { λ r. ⌜ r ≡ readingOf (s .inputs) (s .displays) (natAbs (s .count)) (s .step) input ⌝ }
+{
+    let count = s.count as usize;
+    let step = s.step;
+    reading::reading_of(&s.inputs, &s.displays, count, step, input)
+}
+
 // The reading of an input on the configuration's scale, and all that is made of it.
 fn measure(m: Meter, input: i32) -> Instrument
     requires { ⌜ sound m ≡ true ⌝ }
     ensures { λ r. ⌜ r ≡ instruments.sampled (m .config) (m .instrument) input ⌝ }
 {
-    let count = m.config.scale.count as usize;
-    let step = m.config.scale.step;
-    let reading = reading::reading_of(
-        &m.config.scale.inputs,
-        &m.config.scale.displays,
-        count,
-        step,
-        input,
-    );
+    let scale = m.config.scale;
+    let reading = reading_on(scale, input);
     let totalizer = m.config.totalizer;
     let settings = m.config.alarms;
     let analog = m.config.analog;

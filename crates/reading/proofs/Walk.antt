@@ -1,7 +1,6 @@
--- A walk over the first n places: a test that holds so far, one place more, and a place where it fails. And what rule 5 gives at
--- each point. Assumes nothing.
+-- A walk over the first n places: one place more, and a place that was passed. And what rule 5 gives at each point. Assumes nothing.
 use mathlib.Core.Path.{_≡_}
-use mathlib.Core.Bool.{Bool, true, false}
+use mathlib.Core.Bool.{Bool, true, _&&_}
 use mathlib.Core.List.{List}
 use mathlib.Core.Logic.{⊎-elim}
 use Prim.Native.Nat.{ℕ, zero, suc, _+_, _-_, _<_}
@@ -10,18 +9,12 @@ use native.Mathlib.Numerals.{add-one}
 use native.Mathlib.Omega.{arith}
 use lib.IntN.{ℤ}
 use lib.Signed.{ltZ}
-use Rattle.exact.proofs.Z.{both, and-false, false-and}
+use Rattle.exact.proofs.Z.{both}
 use Rattle.reading.specs.Reading.{inInput, inDisplay, point, upTo, pointIn, risesAt, pointsIn}
 
-pub walk-next : (test : ℕ → Bool) (i : ℕ) → upTo test i ≡ true → test i ≡ true → upTo test (i + 1) ≡ true
+pub walk-next : (test : ℕ → Bool) (i : ℕ) → upTo test (i + 1) ≡ upTo test i && test i
 unfolding upTo
-walk-next test i h t = rw (add-one i, h, t)
-
-pub walk-fails : (test : ℕ → Bool) (i n : ℕ) → i < n → test i ≡ false → upTo test n ≡ false
-unfolding upTo
-walk-fails test i zero h t = absurd (omega arith)
-walk-fails test i (suc n) h t =
-    ⊎-elim (λ e. rw (← e) (rw t (and-false (upTo test i)))) (λ l. false-and (test n) (walk-fails test i n l t)) (eq-or-lt-of-le (omega arith))
+walk-next test i = rw add-one
 
 pub walk-at : (test : ℕ → Bool) (n i : ℕ) → upTo test n ≡ true → i < n → test i ≡ true
 unfolding upTo

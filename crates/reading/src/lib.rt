@@ -90,36 +90,33 @@ fn point_in(input: i32, display: i32) -> bool
     (-99999 <= input) & (input <= 99999) & ((-19999 <= display) & (display <= 99999))
 }
 
-// Whether the first count points all lie in their ranges.
+// Whether the first count points all lie in their ranges. A test that fails does not end the walk, so the compiler takes several points
+// at a time: every event of a meter is judged by it.
 fn every_point_in<'a>(inputs: &'a [i32; 16], displays: &'a [i32; 16], count: usize) -> bool
     requires { ⌜ count ≤ 16 ⌝ }
     ensures { λ r. ⌜ r ≡ upTo (pointIn (now (inputs .entry)) (now (displays .entry))) count ⌝ }
 {
+    let mut all = true;
     let mut i = 0;
     while i < count {
-        if point_in(inputs[i], displays[i]) {
-            i += 1;
-        } else {
-            return false;
-        }
+        all = all & point_in(inputs[i], displays[i]);
+        i += 1;
     }
-    true
+    all
 }
 
-// Whether each of the first so many inputs is below the next.
+// Whether each of the first so many inputs is below the next, by the same kind of walk.
 fn rises(inputs: &[i32; 16], steps: usize) -> bool
     requires { ⌜ steps < 16 ⌝ }
     ensures { λ r. ⌜ r ≡ upTo (risesAt (now (inputs .entry))) steps ⌝ }
 {
+    let mut all = true;
     let mut i = 0;
     while i < steps {
-        if inputs[i] < inputs[i + 1] {
-            i += 1;
-        } else {
-            return false;
-        }
+        all = all & (inputs[i] < inputs[i + 1]);
+        i += 1;
     }
-    true
+    all
 }
 
 // Rule 5 of a configuration, of the points in use.

@@ -1,20 +1,20 @@
--- `reading::every_point_in` meets its contract. The invariant: every point passed lies in its ranges. Assumes nothing.
+-- `reading::every_point_in` meets its contract. The invariant: what is kept says of the points passed whether all lie in their ranges.
+-- Assumes nothing.
 use borrow.Author.Needs.{needs}
 use native.Mathlib.Omega.{arith}
 use mathlib.Core.Path.{_≡_, refl, sym, ap, _∙_}
-use mathlib.Core.Bool.{true}
 use Prim.Native.Nat.{_≤_, _-_}
 use Rattle.exact.proofs.Z.{back32}
 use Rattle.reading.specs.Reading.{point, upTo, pointIn}
-use Rattle.reading.proofs.Walk.{walk-next, walk-fails}
+use Rattle.reading.proofs.Walk.{walk-next}
 use Rattle.reading.proofs.every_point_in.Statement.{statement}
 use Rattle.reading.proofs.every_point_in.Tie as tie
 
 abbrev Inv-loop : tie.InvT-loop
-Inv-loop inputs displays count i₀ i = (i ≤ count) × (upTo (pointIn inputs displays) i ≡ true)
+Inv-loop inputs displays count all₀ i₀ all i = (i ≤ count) × (all ≡ upTo (pointIn inputs displays) i)
 
 abbrev μ-loop : tie.MeasureT-loop
-μ-loop inputs displays count i₀ i = count - i
+μ-loop inputs displays count all₀ i₀ all i = count - i
 
 loop-holds : tie.Need-loop-holds Inv-loop μ-loop
 unfolding upTo
@@ -53,19 +53,14 @@ test c =
 
 loop-again : tie.Need-loop-again Inv-loop μ-loop
 loop-again c =
-    let l = c .before .before .before .before .before in
-    (omega arith, walk-next _ (l .loop .i) (l .loop .inv .1) (sym (test (c .before)) ∙ c .if1 .taken))
+    let l = c .before .before .before .before in
+    (omega arith, rw (l .loop .inv .1, test c) (sym (walk-next _ (l .loop .i))))
 
 returns : tie.Need-returns Inv-loop μ-loop
 returns c =
-    let l = c .before .before .before .before .before in
-    sym (walk-fails _ (l .loop .i) (l .before .args .count) (omega arith) (sym (test (c .before)) ∙ c .if1 .left))
-
-returns-2 : tie.Need-returns-2 Inv-loop μ-loop
-returns-2 c =
     let l = c .before in
     let e : l .loop .i ≡ l .before .args .count = omega arith in
-    sym (ap (upTo (pointIn (l .before .args .inputs .now) (l .before .args .displays .now))) (sym e) ∙ l .loop .inv .1)
+    l .loop .inv .1 ∙ ap (upTo (pointIn (l .before .args .inputs .now) (l .before .args .displays .now))) e
 
 pub every-point-in-spec : {M : Type 1} → statement M
 every-point-in-spec =
@@ -82,5 +77,4 @@ every-point-in-spec =
     add-i
     loop-less
     loop-again
-    returns
-    returns-2)
+    returns)

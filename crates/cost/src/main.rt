@@ -1,0 +1,326 @@
+// Events in numbers, for whoever counts what they cost: each line of standard input says how many events of a kind a new meter is given,
+// one after another. What the last one is answered is printed, and then what key 6 is answered, whose block shows that they were carried
+// out. `?` is printed for any other line. Lines are taken from the first 4,096 bytes, and each has its LF.
+//
+//     M times          samples, with one input in each segment by turns
+//     S times input    samples with one input
+//     N times input    the same to a meter not started
+//     K times number   one key
+//     B times bytes    the bytes by turns
+ghost use Prim.Native.Nat.{_<_};
+ghost use lib.ListN.{length};
+use alarm::Settings;
+use answer::Answer;
+use config::Analog;
+use config::Config;
+use config::Places;
+use config::Print;
+use config::Scale;
+use libc::STDIN_FILENO;
+use libc::STDOUT_FILENO;
+use meter::Meter;
+use meter::Outcome;
+use text::Natural;
+use text::Number;
+use text::Step;
+use total::Totalizer;
+
+// ---- the meter
+
+fn alarm(on_delay: i32, off_delay: i32, low_acting: bool, latched: bool) -> Settings {
+    Settings {
+        hysteresis: 10,
+        on_delay,
+        off_delay,
+        low_acting,
+        latched,
+    }
+}
+
+// Node 5 with points on a curve that bends at each, four alarms of several kinds with delays, a capture time, and every line printed.
+// All 16 points are in use, or none for a meter that is refused.
+fn cost_config(count: i32) -> Config {
+    let first = alarm(1, 1, false, false);
+    let second = alarm(2, 2, false, false);
+    let third = alarm(1, 0, false, true);
+    let fourth = alarm(1, 1, true, false);
+    Config {
+        node: 5,
+        places: Places { input: 1, total: 0 },
+        scale: Scale {
+            step: 5,
+            count,
+            inputs: [
+                0,
+                1000,
+                2000,
+                3000,
+                4000,
+                5000,
+                6000,
+                7000,
+                8000,
+                9000,
+                10000,
+                11000,
+                12000,
+                13000,
+                14000,
+                15000,
+            ],
+            displays: [
+                0,
+                40,
+                150,
+                330,
+                580,
+                900,
+                1280,
+                1720,
+                2210,
+                2740,
+                3300,
+                3870,
+                4430,
+                4970,
+                5480,
+                6000,
+            ],
+        },
+        totalizer: Totalizer {
+            batch: false,
+            low_cut: 0,
+            factor: 1000,
+            time_base: 60,
+        },
+        setpoints: [1000, 3000, 5000, 200],
+        alarms: [first, second, third, fourth],
+        capture: 1,
+        analog: Analog { low: 0, high: 6000 },
+        abbreviated: false,
+        print: Print {
+            input: true,
+            extremes: true,
+            total: true,
+            setpoints: true,
+        },
+    }
+}
+
+// ---- the events
+//
+// Each loop has one event before it, so that every call stands at two places: the compiler then makes a function of it, as in a program
+// that calls it at many, and a turn of the loop adds the call, its arguments and the count, and no copy of the meter.
+
+// One input in each of the 15 segments, down by every second one and up by the others, and at the top one beyond the last point. In
+// each round every alarm that is not latched goes on and off.
+const INPUTS: [i32; 16] = [
+    7500,
+    5500,
+    3500,
+    1500,
+    500,
+    2500,
+    4500,
+    6500,
+    8500,
+    10500,
+    12500,
+    14500,
+    16000,
+    13500,
+    11500,
+    9500,
+];
+
+// The place that follows in a list that is gone through by turns.
+fn following(at: usize, size: usize) -> usize
+    requires { ⌜ at < size ⌝ }
+    ensures { λ r. ⌜ r < size ⌝ }
+{
+    if at + 1 < size { at + 1 } else { 0 }
+}
+
+fn mixed_samples(m: Meter, inputs: &[i32; 16], times: u64) -> Outcome {
+    let mut o = m.sample(inputs[0]);
+    let mut at = 0;
+    let mut left = times;
+    while left > 1 {
+        at = following(at, 16);
+        o = o.meter.sample(inputs[at]);
+        left -= 1;
+    }
+    o
+}
+
+fn samples(m: Meter, input: i32, times: u64) -> Outcome {
+    let mut o = m.sample(input);
+    let mut left = times;
+    while left > 1 {
+        o = o.meter.sample(input);
+        left -= 1;
+    }
+    o
+}
+
+fn keys(m: Meter, number: i32, buffer: &mut [u8], times: u64) -> Outcome {
+    let mut o = m.key(number, &mut *buffer, 0);
+    let mut left = times;
+    while left > 1 {
+        o = o.meter.key(number, &mut *buffer, 0);
+        left -= 1;
+    }
+    o
+}
+
+fn bytes(m: Meter, list: &[u8], buffer: &mut [u8], times: u64) -> Outcome
+    requires { ⌜ 0 < length (now list) ⌝ }
+{
+    let mut o = m.byte(list[0], &mut *buffer, 0);
+    let mut at = 0;
+    let mut left = times;
+    while left > 1 {
+        at = following(at, list.len());
+        o = o.meter.byte(list[at], &mut *buffer, 0);
+        left -= 1;
+    }
+    o
+}
+
+// A meter that has had one round of samples, so that it has a reading, a total, a max and a min to show.
+fn started() -> Meter {
+    let o = Meter::power_up(cost_config(16));
+    let p = mixed_samples(o.meter, &INPUTS, 16);
+    p.meter
+}
+
+fn not_started() -> Meter {
+    let o = Meter::power_up(cost_config(0));
+    o.meter
+}
+
+// ---- what is printed
+
+// The first n bytes of the buffer, of which there are as many.
+fn put_reply(buffer: &[u8], n: usize) {
+    if n <= buffer.len() {
+        io::write_all(STDOUT_FILENO, &buffer[0..n]);
+    }
+}
+
+// An answer's number and what it carries, and after a 2 the reply itself.
+fn put_answer(a: Answer, buffer: &[u8]) {
+    io::print_decimal(STDOUT_FILENO, answer::number(a));
+    io::write_all(STDOUT_FILENO, b" ");
+    io::print_decimal(STDOUT_FILENO, answer::value(a));
+    io::write_all(STDOUT_FILENO, b"\n");
+    if let Answer::Replied(n) = a {
+        put_reply(buffer, n);
+    }
+}
+
+// What the last event was answered, and the block that the meter then prints.
+fn put_outcome(o: Outcome, buffer: &mut [u8]) {
+    let answer = o.answer;
+    put_answer(answer, &*buffer);
+    let p = o.meter.key(6, &mut *buffer, 0);
+    let printed = p.answer;
+    put_answer(printed, &*buffer);
+}
+
+fn put_unknown() {
+    io::write_all(STDOUT_FILENO, b"?\n");
+}
+
+// ---- the lines
+
+// S, N and K, which have a number.
+fn numbered(letter: u8, times: u64, number: i32, buffer: &mut [u8]) {
+    match letter {
+        b'S' => put_outcome(samples(started(), number, times), buffer),
+        b'N' => put_outcome(samples(not_started(), number, times), buffer),
+        b'K' => {
+            let o = keys(started(), number, &mut *buffer, times);
+            put_outcome(o, &mut *buffer);
+        }
+        _ => put_unknown(),
+    }
+}
+
+fn with_number(letter: u8, times: u64, number: Number, buffer: &mut [u8]) {
+    match number {
+        Number::Is(v) => numbered(letter, times, v, buffer),
+        Number::Not => put_unknown(),
+    }
+}
+
+// B, which has at least one byte.
+fn with_bytes(times: u64, list: &[u8], buffer: &mut [u8]) {
+    if list.len() < 1 {
+        put_unknown();
+        return;
+    }
+    let o = bytes(started(), list, &mut *buffer, times);
+    put_outcome(o, &mut *buffer);
+}
+
+// The events of a letter, with what stands behind their number.
+fn events(letter: u8, times: u64, rest: &[u8]) {
+    let mut buffer = [0u8; 163];
+    match letter {
+        b'M' => put_outcome(mixed_samples(started(), &INPUTS, times), &mut buffer),
+        b'B' => with_bytes(times, rest, &mut buffer),
+        _ => with_number(letter, times, text::read_number(rest), &mut buffer),
+    }
+}
+
+fn counted(letter: u8, times: Natural, rest: &[u8]) {
+    match times {
+        Natural::Is(n) => events(letter, n, rest),
+        Natural::Not => put_unknown(),
+    }
+}
+
+// A line, as its bytes without the LF.
+fn carried_out(s: &[u8]) {
+    if s.len() < 3 {
+        put_unknown();
+        return;
+    }
+    let end = text::word_end(s, 2);
+    let times = text::read_natural(19, &s[2..end]);
+    if end < s.len() {
+        let next = end + 1;
+        counted(s[0], times, &s[next..]);
+    } else {
+        counted(s[0], times, &s[end..]);
+    }
+}
+
+// The line of an array and a count, where it has ended there.
+fn stepped(line: &[u8; 1024], f: Step) {
+    let len = f.len;
+    if f.ended {
+        if len <= 1024 {
+            let s: &[u8] = line;
+            carried_out(&s[..len]);
+        }
+    }
+}
+
+// The lines of a block.
+fn lines(block: &[u8], line: &mut [u8; 1024]) {
+    let mut at = 0;
+    while at < block.len() {
+        let f = text::feed(&mut *line, 0, &block[at..]);
+        at += f.used;
+        stepped(&*line, f);
+    }
+}
+
+fn main() {
+    let mut block = io::buffer();
+    let mut line = [0u8; 1024];
+    let n = io::read_full(STDIN_FILENO, &mut block);
+    lines(&block[0..n], &mut line);
+}
