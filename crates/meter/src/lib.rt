@@ -31,11 +31,11 @@ ghost use Rattle.reading.specs.Reading.{Accepted, readingOf};
 ghost use Rattle.total.specs.Total as totals;
 ghost use Rattle.config.specs.Config.{nodeRule, placesRule};
 ghost use Rattle.form.specs.Understood.{Permitted};
-ghost use Rattle.instrument.specs.Instrument.{permit, resetRegister, resetAlarms, writeStatus};
+ghost use Rattle.line.specs.Buffer.{answer, after};
+ghost use Rattle.instrument.specs.Instrument.{permit};
 ghost use Rattle.instrument.specs.Instrument as instruments;
-ghost use Rattle.receiver.specs.Receiver.{kind};
 ghost use Rattle.meter.specs.Sound.{canShow, canScale, canDivide, soundConfig, sound};
-ghost use Rattle.meter.specs.Meter.{noConfig, fresh, withInstrument, emptied, answerOf, replied, style, options, setpoints, values, readReply, printReply, writeOutcome, changed, outcome, carried, ended, byKind, received, batchOutcome, pressed, keyed, poweredUp, sampled};
+ghost use Rattle.meter.specs.Meter.{noConfig, fresh, withInstrument, answerOf, style, options, setpoints, values, readReply, printReply, writeOutcome, changed, outcome, carried, ended, received, batchOutcome, pressed, keyed, poweredUp, sampled};
 
 pub struct Meter {
     pub config: Config,
@@ -47,6 +47,13 @@ pub struct Meter {
 pub struct Outcome {
     pub answer: Answer,
     pub meter: Meter,
+}
+
+// What a key or a string does: its answer, and the instrument afterwards. It goes no further than that, so neither the configuration nor
+// the receiver is copied on the way.
+struct Effect {
+    answer: Answer,
+    instrument: Instrument,
 }
 
 // ---- which meters are started
@@ -105,21 +112,22 @@ fn is_sound(m: Meter) -> bool
 
 // ---- parts
 
-fn with_instrument(m: Meter, i: Instrument) -> Meter
-    ensures { λ r. ⌜ r ≡ withInstrument m i ⌝ }
+// An answer that leaves the instrument as it is.
+fn unchanged(m: Meter, answer: Answer) -> Effect
+    ensures { λ r. ⌜ r ≡ record { answer = answer; instrument = m .instrument } ⌝ }
 {
-    let mut n = m;
-    n.instrument = i;
-    n
+    let instrument = m.instrument;
+    Effect { answer, instrument }
 }
 
-// The receiver emptied, and all else as it is.
-fn emptied(m: Meter) -> Meter
-    ensures { λ r. ⌜ r ≡ emptied m ⌝ }
+// Answer 0, and the instrument that comes of what was carried out.
+fn done(instrument: Instrument) -> Effect
+    ensures { λ r. ⌜ r ≡ record { answer = Done; instrument = instrument } ⌝ }
 {
-    let mut n = m;
-    n.receiver = receiver::emptied(m.receiver);
-    n
+    Effect {
+        answer: Answer::Done,
+        instrument,
+    }
 }
 
 // ---- replies
@@ -200,11 +208,11 @@ fn values(places: Places, totalizer: Totalizer, i: Instrument) -> Values
 }
 
 // T: the line of one register.
-fn read(m: Meter, register: usize, buffer: &mut [u8], place: usize) -> Outcome
+fn read(m: Meter, register: usize, buffer: &mut [u8], place: usize) -> Answer
     requires { ⌜ sound m ≡ true ⌝ }
     requires { ⌜ register ≤ 9 ⌝ }
-    ensures { λ r. ⌜ r ≡ replied m (readReply (m .config) (m .instrument) register) (now (buffer .entry)) place .outcome ⌝ }
-    ensures { λ _. ⌜ now (buffer .exit) ≡ replied m (readReply (m .config) (m .instrument) register) (now (buffer .entry)) place .buffer ⌝ }
+    ensures { λ r. ⌜ r ≡ answerOf (answer (now (buffer .entry)) place (readReply (m .config) (m .instrument) register)) ⌝ }
+    ensures { λ _. ⌜ now (buffer .exit) ≡ after (now (buffer .entry)) place (readReply (m .config) (m .instrument) register) ⌝ }
 {
     let config = m.config;
     let i = m.instrument;
@@ -214,17 +222,14 @@ fn read(m: Meter, register: usize, buffer: &mut [u8], place: usize) -> Outcome
     let places = instrument::places_at(all, register);
     let shown = instrument::shown_at(totalizer, i, register);
     let written = line::write_line(buffer, place, style, register, places, shown);
-    Outcome {
-        answer: answer_of(written),
-        meter: m,
-    }
+    answer_of(written)
 }
 
 // P and key 6: the block.
-fn print(m: Meter, buffer: &mut [u8], place: usize) -> Outcome
+fn print(m: Meter, buffer: &mut [u8], place: usize) -> Answer
     requires { ⌜ sound m ≡ true ⌝ }
-    ensures { λ r. ⌜ r ≡ replied m (printReply (m .config) (m .instrument)) (now (buffer .entry)) place .outcome ⌝ }
-    ensures { λ _. ⌜ now (buffer .exit) ≡ replied m (printReply (m .config) (m .instrument)) (now (buffer .entry)) place .buffer ⌝ }
+    ensures { λ r. ⌜ r ≡ answerOf (answer (now (buffer .entry)) place (printReply (m .config) (m .instrument))) ⌝ }
+    ensures { λ _. ⌜ now (buffer .exit) ≡ after (now (buffer .entry)) place (printReply (m .config) (m .instrument)) ⌝ }
 {
     let config = m.config;
     let i = m.instrument;
@@ -235,210 +240,98 @@ fn print(m: Meter, buffer: &mut [u8], place: usize) -> Outcome
     let options = options(chosen);
     let values = values(all, totalizer, i);
     let written = block::write_block(buffer, place, style, options, values);
-    Outcome {
-        answer: answer_of(written),
-        meter: m,
-    }
+    answer_of(written)
 }
 
-// ---- a string that has ended
+// ---- a string that has ended: `changed` empties the receiver, whatever the answer
 
 // V of a number.
-fn write(m: Meter, register: usize, z: i32) -> Outcome
+fn write(m: Meter, register: usize, z: i32) -> Effect
     requires { ⌜ (4 ≤ register) × (register ≤ 8) ⌝ }
-    ensures { λ r. ⌜ r ≡ writeOutcome m register z (permit (m .instrument .mode) register z) ⌝ }
+    ensures { λ r. ⌜ outcome (r .answer) (changed m (r .instrument)) ≡ writeOutcome m register z (permit (m .instrument .mode) register z) ⌝ }
 {
-    let n = emptied(m);
     let i = m.instrument;
     let mode = i.mode;
     let permit = instrument::permitted(mode, register, z);
     match permit {
-        Permit::Allowed => {
-            let changed = instrument::write_register(i, register, z);
-            Outcome {
-                answer: Answer::Done,
-                meter: with_instrument(n, changed),
-            }
-        }
-        Permit::OutOfRange => Outcome {
-            answer: Answer::OutOfRange,
-            meter: n,
-        },
-        Permit::InAutomatic => Outcome {
-            answer: Answer::InAutomatic,
-            meter: n,
-        },
-    }
-}
-
-// R of a register.
-fn reset(m: Meter, register: usize) -> Outcome
-    requires { ⌜ (1 ≤ register) × (register ≤ 7) ⌝ }
-    ensures { λ r. ⌜ r ≡ outcome Done (changed m (resetRegister (m .instrument) register)) ⌝ }
-{
-    let n = emptied(m);
-    let i = instrument::reset_register(m.instrument, register);
-    Outcome {
-        answer: Answer::Done,
-        meter: with_instrument(n, i),
-    }
-}
-
-// VJ.
-fn status(m: Meter, b: u8) -> Outcome
-    requires { ⌜ sound m ≡ true ⌝ }
-    ensures { λ r. ⌜ r ≡ outcome Done (changed m (writeStatus (m .config .analog) (m .instrument) b)) ⌝ }
-{
-    let n = emptied(m);
-    let config = m.config;
-    let i = instrument::write_status(config.analog, m.instrument, b);
-    Outcome {
-        answer: Answer::Done,
-        meter: with_instrument(n, i),
+        Permit::Allowed => done(instrument::write_register(i, register, z)),
+        Permit::OutOfRange => unchanged(m, Answer::OutOfRange),
+        Permit::InAutomatic => unchanged(m, Answer::InAutomatic),
     }
 }
 
 // What is asked of this meter is carried out.
-fn carry_out(m: Meter, asked: Asked, buffer: &mut [u8], place: usize) -> Outcome
+fn carry_out(m: Meter, asked: Asked, buffer: &mut [u8], place: usize) -> Effect
     requires { ⌜ sound m ≡ true ⌝ }
     requires { ⌜ Permitted asked ⌝ }
-    ensures { λ r. ⌜ r ≡ carried m asked (now (buffer .entry)) place .outcome ⌝ }
+    ensures { λ r. ⌜ outcome (r .answer) (changed m (r .instrument)) ≡ carried m asked (now (buffer .entry)) place .outcome ⌝ }
     ensures { λ _. ⌜ now (buffer .exit) ≡ carried m asked (now (buffer .entry)) place .buffer ⌝ }
 {
     match asked {
-        Asked::Read(register) => read(emptied(m), register, buffer, place),
-        Asked::Print => print(emptied(m), buffer, place),
-        Asked::Reset(register) => reset(m, register),
+        Asked::Read(register) => unchanged(m, read(m, register, buffer, place)),
+        Asked::Print => unchanged(m, print(m, buffer, place)),
+        Asked::Reset(register) => done(instrument::reset_register(m.instrument, register)),
         Asked::Write(register, z) => write(m, register, z),
-        Asked::Status(b) => status(m, b),
-        Asked::BadForm => Outcome {
-            answer: Answer::BadForm,
-            meter: emptied(m),
-        },
+        Asked::Status(b) => done(instrument::write_status(m.config.analog, m.instrument, b)),
+        Asked::BadForm => unchanged(m, Answer::BadForm),
     }
 }
 
 // `*` or `$`: too long, then the address, then what is asked.
-fn end(m: Meter, buffer: &mut [u8], place: usize) -> Outcome
+fn end(m: Meter, buffer: &mut [u8], place: usize) -> Effect
     requires { ⌜ sound m ≡ true ⌝ }
-    ensures { λ r. ⌜ r ≡ ended m (now (buffer .entry)) place .outcome ⌝ }
+    ensures { λ r. ⌜ outcome (r .answer) (changed m (r .instrument)) ≡ ended m (now (buffer .entry)) place .outcome ⌝ }
     ensures { λ _. ⌜ now (buffer .exit) ≡ ended m (now (buffer .entry)) place .buffer ⌝ }
 {
     let held = m.receiver;
     let length = held.length;
     if receiver::is_over(length) {
-        return Outcome {
-            answer: Answer::TooLong,
-            meter: emptied(m),
-        };
+        return unchanged(m, Answer::TooLong);
     }
     let parsed = command::parse_held(&held.bytes, length);
     match parsed {
-        Parsed::NoNode => Outcome {
-            answer: Answer::BadForm,
-            meter: emptied(m),
-        },
+        Parsed::NoNode => unchanged(m, Answer::BadForm),
         Parsed::To(node, asked) => {
             let config = m.config;
             if node == own_node(config.node) {
                 carry_out(m, asked, buffer, place)
             } else {
-                Outcome {
-                    answer: Answer::OtherNode,
-                    meter: emptied(m),
-                }
+                unchanged(m, Answer::OtherNode)
             }
         }
-    }
-}
-
-// A byte to a started meter.
-fn receive(m: Meter, b: u8, buffer: &mut [u8], place: usize) -> Outcome
-    requires { ⌜ sound m ≡ true ⌝ }
-    ensures { λ r. ⌜ r ≡ byKind m b (now (buffer .entry)) place (kind b) .outcome ⌝ }
-    ensures { λ _. ⌜ now (buffer .exit) ≡ byKind m b (now (buffer .entry)) place (kind b) .buffer ⌝ }
-{
-    let kind = receiver::kind_of(b);
-    match kind {
-        Kind::Part => {
-            let mut n = m;
-            n.receiver = receiver::stored(m.receiver, b);
-            Outcome {
-                answer: Answer::Stored,
-                meter: n,
-            }
-        }
-        Kind::Drop => Outcome {
-            answer: Answer::Dropped,
-            meter: emptied(m),
-        },
-        Kind::End => end(m, buffer, place),
     }
 }
 
 // ---- keys
 
 // Key 1.
-fn batch_key(m: Meter) -> Outcome
+fn batch_key(m: Meter) -> Effect
     requires { ⌜ sound m ≡ true ⌝ }
-    ensures { λ r. ⌜ r ≡ batchOutcome m ⌝ }
+    ensures { λ r. ⌜ outcome (r .answer) (withInstrument m (r .instrument)) ≡ batchOutcome m ⌝ }
 {
     let config = m.config;
     let totalizer = config.totalizer;
     if totalizer.batch {
-        let i = instrument::batched(totalizer, m.instrument);
-        Outcome {
-            answer: Answer::Done,
-            meter: with_instrument(m, i),
-        }
+        done(instrument::batched(totalizer, m.instrument))
     } else {
-        Outcome {
-            answer: Answer::UnknownKey,
-            meter: m,
-        }
+        unchanged(m, Answer::UnknownKey)
     }
 }
 
-// Keys 2 to 4, which act as RB, RC and RD do.
-fn reset_key(m: Meter, register: usize) -> Outcome
-    requires { ⌜ (1 ≤ register) × (register ≤ 3) ⌝ }
-    ensures { λ r. ⌜ r ≡ outcome Done (withInstrument m (resetRegister (m .instrument) register)) ⌝ }
-{
-    let i = instrument::reset_register(m.instrument, register);
-    Outcome {
-        answer: Answer::Done,
-        meter: with_instrument(m, i),
-    }
-}
-
-// Key 5.
-fn alarms_key(m: Meter) -> Outcome
-    ensures { λ r. ⌜ r ≡ outcome Done (withInstrument m (resetAlarms (m .instrument))) ⌝ }
-{
-    let i = instrument::reset_alarms(m.instrument);
-    Outcome {
-        answer: Answer::Done,
-        meter: with_instrument(m, i),
-    }
-}
-
-// A key to a started meter.
-fn press(m: Meter, number: i32, buffer: &mut [u8], place: usize) -> Outcome
+// A key to a started meter. Keys 2 to 4 act as RB, RC and RD do.
+fn press(m: Meter, number: i32, buffer: &mut [u8], place: usize) -> Effect
     requires { ⌜ sound m ≡ true ⌝ }
-    ensures { λ r. ⌜ r ≡ pressed m number (now (buffer .entry)) place .outcome ⌝ }
+    ensures { λ r. ⌜ outcome (r .answer) (withInstrument m (r .instrument)) ≡ pressed m number (now (buffer .entry)) place .outcome ⌝ }
     ensures { λ _. ⌜ now (buffer .exit) ≡ pressed m number (now (buffer .entry)) place .buffer ⌝ }
 {
     match number {
         1 => batch_key(m),
-        2 => reset_key(m, 1),
-        3 => reset_key(m, 2),
-        4 => reset_key(m, 3),
-        5 => alarms_key(m),
-        6 => print(m, buffer, place),
-        _ => Outcome {
-            answer: Answer::UnknownKey,
-            meter: m,
-        },
+        2 => done(instrument::reset_register(m.instrument, 1)),
+        3 => done(instrument::reset_register(m.instrument, 2)),
+        4 => done(instrument::reset_register(m.instrument, 3)),
+        5 => done(instrument::reset_alarms(m.instrument)),
+        6 => unchanged(m, print(m, buffer, place)),
+        _ => unchanged(m, Answer::UnknownKey),
     }
 }
 
@@ -552,18 +445,13 @@ impl Meter {
     pub fn sample(self, input: i32) -> Outcome
         ensures { λ r. ⌜ r ≡ sampled self input ⌝ }
     {
+        let mut m = self;
+        let mut answer = Answer::NotStarted;
         if is_sound(self) {
-            let i = measure(self, input);
-            Outcome {
-                answer: Answer::Done,
-                meter: with_instrument(self, i),
-            }
-        } else {
-            Outcome {
-                answer: Answer::NotStarted,
-                meter: self,
-            }
+            m.instrument = measure(self, input);
+            answer = Answer::Done;
         }
+        Outcome { answer, meter: m }
     }
 
     // One key. A reply goes into the buffer from the place on.
@@ -571,14 +459,15 @@ impl Meter {
         ensures { λ r. ⌜ r ≡ keyed self number (now (buffer .entry)) place .outcome ⌝ }
         ensures { λ _. ⌜ now (buffer .exit) ≡ keyed self number (now (buffer .entry)) place .buffer ⌝ }
     {
+        let mut m = self;
+        let mut answer = Answer::NotStarted;
         if is_sound(self) {
-            press(self, number, buffer, place)
-        } else {
-            Outcome {
-                answer: Answer::NotStarted,
-                meter: self,
-            }
+            let effect = press(self, number, buffer, place);
+            let instrument = effect.instrument;
+            answer = effect.answer;
+            m.instrument = instrument;
         }
+        Outcome { answer, meter: m }
     }
 
     // One received byte. A reply goes into the buffer from the place on.
@@ -586,13 +475,28 @@ impl Meter {
         ensures { λ r. ⌜ r ≡ received self b (now (buffer .entry)) place .outcome ⌝ }
         ensures { λ _. ⌜ now (buffer .exit) ≡ received self b (now (buffer .entry)) place .buffer ⌝ }
     {
+        let mut m = self;
+        let mut answer = Answer::NotStarted;
         if is_sound(self) {
-            receive(self, b, buffer, place)
-        } else {
-            Outcome {
-                answer: Answer::NotStarted,
-                meter: self,
+            let kind = receiver::kind_of(b);
+            match kind {
+                Kind::Part => {
+                    m.receiver = receiver::stored(self.receiver, b);
+                    answer = Answer::Stored;
+                }
+                Kind::Drop => {
+                    m.receiver = receiver::emptied(self.receiver);
+                    answer = Answer::Dropped;
+                }
+                Kind::End => {
+                    let effect = end(self, buffer, place);
+                    let instrument = effect.instrument;
+                    answer = effect.answer;
+                    m.instrument = instrument;
+                    m.receiver = receiver::emptied(self.receiver);
+                }
             }
         }
+        Outcome { answer, meter: m }
     }
 }

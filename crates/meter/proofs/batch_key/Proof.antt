@@ -9,14 +9,17 @@ batched-requires c κs =
     let f = tested (c .before .before .before .args .m) (c .before .before .before .pre) in
     (f .base, f .instrument .total)
 
-with-instrument-requires : tie.Need-with-instrument-requires
-with-instrument-requires c κs = search needs
+done-requires : tie.Need-done-requires
+done-requires c κs = search needs
+
+unchanged-requires : tie.Need-unchanged-requires
+unchanged-requires c κs = search needs
 
 returns : tie.Need-returns
-returns c = rw (c .with-instrument .ensures, c .before .batched .ensures, c .before .before .if1 .taken)
+returns c = rw (c .done .ensures, c .before .batched .ensures, c .before .before .if1 .taken)
 
 returns-2 : tie.Need-returns-2
-returns-2 c = rw (c .if1 .left)
+returns-2 c = rw (c .unchanged .ensures, c .before .if1 .left)
 
 pub batch-key-spec : {M : Type 1} → statement M
-batch-key-spec = tie.close (tie.spec batched-requires with-instrument-requires returns returns-2)
+batch-key-spec = tie.close (tie.spec batched-requires done-requires unchanged-requires returns returns-2)

@@ -26,11 +26,11 @@ short c = sym (c .before .is-over .ensures) ∙ c .if1 .left
 is-over-requires : tie.Need-is-over-requires
 is-over-requires c κs = search needs
 
-emptied-requires : tie.Need-emptied-requires
-emptied-requires c κs = search needs
+unchanged-requires : tie.Need-unchanged-requires
+unchanged-requires c κs = search needs
 
 returns : tie.Need-returns
-returns c = rw (sym (c .before .before .is-over .ensures) ∙ c .before .if1 .taken, c .emptied .ensures) (refl, refl)
+returns c = rw (sym (c .before .before .is-over .ensures) ∙ c .before .if1 .taken, c .unchanged .ensures) (refl, refl)
 
 parse-held-requires : tie.Need-parse-held-requires
 parse-held-requires c κs = ltb-false _ _ (short (c .before .before))
@@ -38,8 +38,8 @@ parse-held-requires c κs = ltb-false _ _ (short (c .before .before))
 enum-told : tie.Need-enum-told
 enum-told c = search needs
 
-emptied-requires-2 : tie.Need-emptied-requires-2
-emptied-requires-2 c κs = search needs
+unchanged-requires-2 : tie.Need-unchanged-requires-2
+unchanged-requires-2 c κs = search needs
 
 enum-known-parsed : tie.Need-enum-known-parsed
 enum-known-parsed c = search needs
@@ -60,12 +60,12 @@ carry-out-requires c κs =
     let a = c .before .before .before .before .before .before in
     (c .before .before .before .before .before .before .before .before .before .before .before .before .before .before .before .pre, understood .permitted _ _ _ (said a) .1)
 
-emptied-requires-3 : tie.Need-emptied-requires-3
-emptied-requires-3 c κs = search needs
+unchanged-requires-3 : tie.Need-unchanged-requires-3
+unchanged-requires-3 c κs = search needs
 
 returns-2 : tie.Need-returns-2
 returns-2 c =
-    rw (short (c .before .before .before .before .before .before), sym (c .before .before .before .parse-held .ensures) ∙ c .before .enum-told .given .1, c .emptied2 .ensures) (refl, refl)
+    rw (short (c .before .before .before .before .before .before), sym (c .before .before .before .parse-held .ensures) ∙ c .before .enum-told .given .1, c .unchanged2 .ensures) (refl, refl)
 
 same-length : tie.Need-same-length
 same-length c = search needs
@@ -80,22 +80,22 @@ returns-4 : tie.Need-returns-4
 returns-4 c =
     let a = c .before .before .before .before .before .before in
     let n = c .before .before in
-    rw (short (c .before .before .before .before .before .before .before .before .before .before .before), said a, ne-eqb _ _ (λ e. c .before .if2 .left (e ∙ sym (own n))), c .emptied3 .ensures) (refl, refl)
+    rw (short (c .before .before .before .before .before .before .before .before .before .before .before), said a, ne-eqb _ _ (λ e. c .before .if2 .left (e ∙ sym (own n))), c .unchanged3 .ensures) (refl, refl)
 
 pub end-spec : {M : Type 1} → statement M
 end-spec =
     tie.close
     (tie.spec
     is-over-requires
-    emptied-requires
+    unchanged-requires
     returns
     parse-held-requires
     enum-told
-    emptied-requires-2
+    unchanged-requires-2
     enum-known-parsed
     own-node-requires
     carry-out-requires
-    emptied-requires-3
+    unchanged-requires-3
     returns-2
     same-length
     returns-3

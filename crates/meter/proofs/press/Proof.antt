@@ -23,51 +23,72 @@ other : (s : tie.Start) (k : ℕ) → SFits w32 (pos k) → (ofZ w32 (s .args .n
 other s k f h = sym (eq32 (s .args .number) (pos k) (s .fits .number) f) ∙ ne-eqb _ _ h
 
 batch-key-requires : tie.Need-batch-key-requires
-batch-key-requires c κs = c .before .before .pre
+batch-key-requires c κs = search needs
 
-reset-key-requires : tie.Need-reset-key-requires
-reset-key-requires c κs = search needs
+reset-register-requires : tie.Need-reset-register-requires
+reset-register-requires c κs = search needs
 
-reset-key-requires-2 : tie.Need-reset-key-requires-2
-reset-key-requires-2 c κs = search needs
+done-requires : tie.Need-done-requires
+done-requires c κs = search needs
 
-reset-key-requires-3 : tie.Need-reset-key-requires-3
-reset-key-requires-3 c κs = search needs
+reset-register-requires-2 : tie.Need-reset-register-requires-2
+reset-register-requires-2 c κs = search needs
 
-alarms-key-requires : tie.Need-alarms-key-requires
-alarms-key-requires c κs = search needs
+done-requires-2 : tie.Need-done-requires-2
+done-requires-2 c κs = search needs
+
+reset-register-requires-3 : tie.Need-reset-register-requires-3
+reset-register-requires-3 c κs = search needs
+
+done-requires-3 : tie.Need-done-requires-3
+done-requires-3 c κs = search needs
+
+reset-alarms-requires : tie.Need-reset-alarms-requires
+reset-alarms-requires c κs = search needs
+
+done-requires-4 : tie.Need-done-requires-4
+done-requires-4 c κs = search needs
 
 print-requires : tie.Need-print-requires
-print-requires c κs = c .before .before .before .pre
+print-requires c κs = search needs
+
+unchanged-requires : tie.Need-unchanged-requires
+unchanged-requires c κs = search needs
+
+unchanged-requires-2 : tie.Need-unchanged-requires-2
+unchanged-requires-2 c κs = search needs
 
 returns : tie.Need-returns
 returns c = rw (is (c .before .before .before) 1 (sfits-lit tt) (c .before .match .keys1)) (c .batch-key .ensures, refl)
 
 returns-2 : tie.Need-returns-2
 unfolding resetRegister
-returns-2 c = rw (is (c .before .before .before) 2 (sfits-lit tt) (c .before .match .keys2)) (c .reset-key .ensures, refl)
+returns-2 c = rw (is (c .before .before .before .before) 2 (sfits-lit tt) (c .before .before .match .keys2), c .done .ensures, c .before .reset-register .ensures) (refl, refl)
 
 returns-3 : tie.Need-returns-3
 unfolding resetRegister
-returns-3 c = rw (is (c .before .before .before) 3 (sfits-lit tt) (c .before .match .keys3)) (c .reset-key2 .ensures, refl)
+returns-3 c = rw (is (c .before .before .before .before) 3 (sfits-lit tt) (c .before .before .match .keys3), c .done2 .ensures, c .before .reset-register2 .ensures) (refl, refl)
 
 returns-4 : tie.Need-returns-4
 unfolding resetRegister
-returns-4 c = rw (is (c .before .before .before) 4 (sfits-lit tt) (c .before .match .keys4)) (c .reset-key3 .ensures, refl)
+returns-4 c = rw (is (c .before .before .before .before) 4 (sfits-lit tt) (c .before .before .match .keys4), c .done3 .ensures, c .before .reset-register3 .ensures) (refl, refl)
 
 returns-5 : tie.Need-returns-5
-returns-5 c = rw (is (c .before .before .before) 5 (sfits-lit tt) (c .before .match .keys5)) (c .alarms-key .ensures, refl)
+returns-5 c = rw (is (c .before .before .before .before) 5 (sfits-lit tt) (c .before .before .match .keys5), c .done4 .ensures, c .before .reset-alarms .ensures) (refl, refl)
 
 same-length : tie.Need-same-length
 same-length c = search needs
 
 returns-6 : tie.Need-returns-6
-returns-6 c = rw (is (c .before .before .before .before .before .before) 6 (sfits-lit tt) (c .before .before .before .before .match .keys6)) (c .before .before .print .ensures)
+returns-6 c =
+    let e = c .before .before .before .print .ensures in
+    let k = c .before .before .before .before .before in
+    rw (is (k .before .before) 6 (sfits-lit tt) (k .match .keys6), c .unchanged .ensures, e .0) (refl, e .1)
 
 returns-7 : tie.Need-returns-7
 returns-7 c =
-    let s = c .before .before in
-    let r = c .match .rest in
+    let s = c .before .before .before in
+    let r = c .before .match .rest in
     rw (
       other s 1 (sfits-lit tt) (r .0 .0 .0 .0 .0 .1),
       other s 2 (sfits-lit tt) (r .0 .0 .0 .0 .1),
@@ -75,6 +96,7 @@ returns-7 c =
       other s 4 (sfits-lit tt) (r .0 .0 .1),
       other s 5 (sfits-lit tt) (r .0 .1),
       other s 6 (sfits-lit tt) (r .1),
+      c .unchanged2 .ensures,
     )
     (refl, refl)
 
@@ -83,11 +105,17 @@ press-spec =
     tie.close
     (tie.spec
     batch-key-requires
-    reset-key-requires
-    reset-key-requires-2
-    reset-key-requires-3
-    alarms-key-requires
+    reset-register-requires
+    done-requires
+    reset-register-requires-2
+    done-requires-2
+    reset-register-requires-3
+    done-requires-3
+    reset-alarms-requires
+    done-requires-4
     print-requires
+    unchanged-requires
+    unchanged-requires-2
     returns
     returns-2
     returns-3

@@ -16,8 +16,8 @@ same-length c = search needs
 
 returns : tie.Need-returns
 returns c =
-    let t = c .before .before .before .before in
-    let r = c .before .before in
+    let r = c .before .before .before in
+    let t = r .before .before in
     rw (sym (t .before .is-sound .ensures) ∙ t .if1 .taken, ← toZ-ofZ (t .before .before .before .fits .number)) (r .press .ensures)
 
 returns-2 : tie.Need-returns-2

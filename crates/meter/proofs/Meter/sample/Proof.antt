@@ -11,16 +11,13 @@ is-sound-requires c κs = search needs
 measure-requires : tie.Need-measure-requires
 measure-requires c κs = sym (c .before .is-sound .ensures) ∙ c .if1 .taken
 
-with-instrument-requires : tie.Need-with-instrument-requires
-with-instrument-requires c κs = search needs
-
 returns : tie.Need-returns
 returns c =
-    let t = c .before .before in
-    rw (sym (t .before .is-sound .ensures) ∙ t .if1 .taken, c .with-instrument .ensures, c .before .measure .ensures, toZ-ofZ (t .before .before .fits .input))
+    let t = c .before in
+    rw (sym (t .before .is-sound .ensures) ∙ t .if1 .taken, c .measure .ensures, toZ-ofZ (t .before .before .fits .input))
 
 returns-2 : tie.Need-returns-2
 returns-2 c = rw (sym (c .before .is-sound .ensures) ∙ c .if1 .left)
 
 pub sample-spec : {M : Type 1} → statement M
-sample-spec = tie.close (tie.spec is-sound-requires measure-requires with-instrument-requires returns returns-2)
+sample-spec = tie.close (tie.spec is-sound-requires measure-requires returns returns-2)
