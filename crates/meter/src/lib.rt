@@ -442,61 +442,68 @@ impl Meter {
     }
 
     // One sample.
-    pub fn sample(self, input: i32) -> Outcome
+    pub fn sample(mut self, input: i32) -> Outcome
         ensures { λ r. ⌜ r ≡ sampled self input ⌝ }
     {
-        let mut m = self;
         let mut answer = Answer::NotStarted;
         if is_sound(self) {
-            m.instrument = measure(self, input);
+            let instrument = measure(self, input);
+            self.instrument = instrument;
             answer = Answer::Done;
         }
-        Outcome { answer, meter: m }
+        Outcome {
+            answer,
+            meter: self,
+        }
     }
 
     // One key. A reply goes into the buffer from the place on.
-    pub fn key(self, number: i32, buffer: &mut [u8], place: usize) -> Outcome
+    pub fn key(mut self, number: i32, buffer: &mut [u8], place: usize) -> Outcome
         ensures { λ r. ⌜ r ≡ keyed self number (now (buffer .entry)) place .outcome ⌝ }
         ensures { λ _. ⌜ now (buffer .exit) ≡ keyed self number (now (buffer .entry)) place .buffer ⌝ }
     {
-        let mut m = self;
         let mut answer = Answer::NotStarted;
         if is_sound(self) {
             let effect = press(self, number, buffer, place);
             let instrument = effect.instrument;
             answer = effect.answer;
-            m.instrument = instrument;
+            self.instrument = instrument;
         }
-        Outcome { answer, meter: m }
+        Outcome {
+            answer,
+            meter: self,
+        }
     }
 
     // One received byte. A reply goes into the buffer from the place on.
-    pub fn byte(self, b: u8, buffer: &mut [u8], place: usize) -> Outcome
+    pub fn byte(mut self, b: u8, buffer: &mut [u8], place: usize) -> Outcome
         ensures { λ r. ⌜ r ≡ received self b (now (buffer .entry)) place .outcome ⌝ }
         ensures { λ _. ⌜ now (buffer .exit) ≡ received self b (now (buffer .entry)) place .buffer ⌝ }
     {
-        let mut m = self;
         let mut answer = Answer::NotStarted;
         if is_sound(self) {
             let kind = receiver::kind_of(b);
             match kind {
                 Kind::Part => {
-                    m.receiver = receiver::stored(self.receiver, b);
+                    self.receiver = receiver::stored(self.receiver, b);
                     answer = Answer::Stored;
                 }
                 Kind::Drop => {
-                    m.receiver = receiver::emptied(self.receiver);
+                    self.receiver = receiver::emptied(self.receiver);
                     answer = Answer::Dropped;
                 }
                 Kind::End => {
                     let effect = end(self, buffer, place);
                     let instrument = effect.instrument;
                     answer = effect.answer;
-                    m.instrument = instrument;
-                    m.receiver = receiver::emptied(self.receiver);
+                    self.instrument = instrument;
+                    self.receiver = receiver::emptied(self.receiver);
                 }
             }
         }
-        Outcome { answer, meter: m }
+        Outcome {
+            answer,
+            meter: self,
+        }
     }
 }
