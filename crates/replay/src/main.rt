@@ -3,7 +3,6 @@
 // which changes nothing. `record.rt` has the lines, `show.rt` what is printed.
 //
 // Standard input is read in blocks, and standard output written in blocks, so the memory is the same for any input.
-mod record;
 mod show;
 
 use answer::Answer;

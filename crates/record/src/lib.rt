@@ -10,7 +10,14 @@
 //
 // The format grows without breaking old files: a new setting comes as a further word at the end of `CFG`, where a line without it has
 // the value that leaves the meter as it was, and anything else comes as a line with a letter of its own.
-ghost use Prim.Native.Nat.{_≤_};
+ghost use mathlib.Core.Path.{_≡_};
+ghost use mathlib.Core.Bool.{false};
+ghost use mathlib.Core.List.{List};
+ghost use Prim.Native.Nat.{_≤_, _<_};
+ghost use lib.ListN.{getD};
+ghost use Rattle.text.specs.Line.{heard};
+ghost use Rattle.record.specs.Record.{sampleOf, keyOf, byteOf, placeOf, asNumber, settingOf, kinds};
+ghost use Rattle.record.specs.Configuration.{inTurn, scaleOf, totalizerOf, alarmOf, printOf, configOf};
 use alarm::Settings;
 use config::Analog;
 use config::Config;
@@ -32,7 +39,9 @@ pub enum Event {
 }
 
 // A place: an unsigned number of 64 bits, which has at most 20 digits.
-fn place(s: &[u8]) -> Natural {
+fn place(s: &[u8]) -> Natural
+    ensures { λ r. ⌜ r ≡ placeOf (now (s .entry)) ⌝ }
+{
     text::read_natural(20, s)
 }
 
@@ -44,7 +53,9 @@ fn sample(s: &[u8]) -> Event {
     }
 }
 
-fn key_at(n: Number, p: Natural) -> Event {
+fn key_at(n: Number, p: Natural) -> Event
+    ensures { λ r. ⌜ r ≡ keyOf n p ⌝ }
+{
     let Number::Is(v) = n else {
         return Event::Bad;
     };
@@ -54,7 +65,9 @@ fn key_at(n: Number, p: Natural) -> Event {
     Event::Key(v, at as usize)
 }
 
-fn byte_at(n: Natural, p: Natural) -> Event {
+fn byte_at(n: Natural, p: Natural) -> Event
+    ensures { λ r. ⌜ r ≡ byteOf n p ⌝ }
+{
     let Natural::Is(v) = n else {
         return Event::Bad;
     };
@@ -87,7 +100,10 @@ fn byte(s: &[u8]) -> Event {
 }
 
 // Whether word i of a configuration is a yes/no: the last two of each alarm's six, and the last six of all.
-fn is_flag(i: usize) -> bool {
+fn is_flag(i: usize) -> bool
+    requires { ⌜ i < 73 ⌝ }
+    ensures { λ r. ⌜ r ≡ getD kinds i false ⌝ }
+{
     if i < 40 {
         return false;
     }
@@ -97,7 +113,9 @@ fn is_flag(i: usize) -> bool {
     67 <= i
 }
 
-fn as_number(f: Flag) -> Number {
+fn as_number(f: Flag) -> Number
+    ensures { λ r. ⌜ r ≡ asNumber f ⌝ }
+{
     match f {
         Flag::Is(yes) => { if yes { Number::Is(1) } else { Number::Is(0) } }
         Flag::Not => Number::Not,
@@ -105,7 +123,10 @@ fn as_number(f: Flag) -> Number {
 }
 
 // Word i of a configuration.
-fn setting(i: usize, s: &[u8]) -> Number {
+fn setting(i: usize, s: &[u8]) -> Number
+    requires { ⌜ i < 73 ⌝ }
+    ensures { λ r. ⌜ r ≡ settingOf (getD kinds i false) (now (s .entry)) ⌝ }
+{
     if is_flag(i) {
         return as_number(text::read_flag(s));
     }
@@ -183,7 +204,9 @@ pub fn judge(line: &[u8; 1024], len: usize, settings: &mut [i32; 73]) -> Event {
 }
 
 // The inputs of the 16 points, and their displays, one after the other in turn.
-fn inputs_of(s: &[i32; 73]) -> [i32; 16] {
+fn inputs_of(s: &[i32; 73]) -> [i32; 16]
+    ensures { λ r. ⌜ r ≡ inTurn (now (s .entry)) 5 ⌝ }
+{
     [
         s[5],
         s[7],
@@ -204,7 +227,9 @@ fn inputs_of(s: &[i32; 73]) -> [i32; 16] {
     ]
 }
 
-fn displays_of(s: &[i32; 73]) -> [i32; 16] {
+fn displays_of(s: &[i32; 73]) -> [i32; 16]
+    ensures { λ r. ⌜ r ≡ inTurn (now (s .entry)) 6 ⌝ }
+{
     [
         s[6],
         s[8],
@@ -228,6 +253,7 @@ fn displays_of(s: &[i32; 73]) -> [i32; 16] {
 // An alarm's six words from a place on: setpoint, hysteresis, on and off delay, low acting, latched.
 fn alarm_at(s: &[i32; 73], at: usize) -> Settings
     requires { ⌜ at ≤ 58 ⌝ }
+    ensures { λ r. ⌜ r ≡ alarmOf (now (s .entry)) at ⌝ }
 {
     Settings {
         hysteresis: s[at + 1],
@@ -238,7 +264,9 @@ fn alarm_at(s: &[i32; 73], at: usize) -> Settings
     }
 }
 
-fn scale_of(s: &[i32; 73]) -> Scale {
+fn scale_of(s: &[i32; 73]) -> Scale
+    ensures { λ r. ⌜ r ≡ scaleOf (now (s .entry)) ⌝ }
+{
     let inputs = inputs_of(s);
     let displays = displays_of(s);
     Scale {
@@ -249,7 +277,9 @@ fn scale_of(s: &[i32; 73]) -> Scale {
     }
 }
 
-fn totalizer_of(s: &[i32; 73]) -> Totalizer {
+fn totalizer_of(s: &[i32; 73]) -> Totalizer
+    ensures { λ r. ⌜ r ≡ totalizerOf (now (s .entry)) ⌝ }
+{
     Totalizer {
         batch: s[67] == 1,
         low_cut: s[39],
@@ -258,7 +288,9 @@ fn totalizer_of(s: &[i32; 73]) -> Totalizer {
     }
 }
 
-fn print_of(s: &[i32; 73]) -> Print {
+fn print_of(s: &[i32; 73]) -> Print
+    ensures { λ r. ⌜ r ≡ printOf (now (s .entry)) ⌝ }
+{
     Print {
         input: s[69] == 1,
         extremes: s[70] == 1,
@@ -269,7 +301,9 @@ fn print_of(s: &[i32; 73]) -> Print {
 
 // The configuration of its 73 words: node, places of input and total, rounding, number of points, 16 points, factor, time base, low
 // cut, four alarms, capture, analog low and high, batch, abbreviated, and what a block prints.
-pub fn config_of(s: &[i32; 73]) -> Config {
+pub fn config_of(s: &[i32; 73]) -> Config
+    ensures { λ r. ⌜ r ≡ configOf (now (s .entry)) ⌝ }
+{
     let scale = scale_of(s);
     let totalizer = totalizer_of(s);
     let first = alarm_at(s, 40);

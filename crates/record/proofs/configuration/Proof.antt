@@ -1,10 +1,10 @@
--- `replay::record::configuration` is safe and ends: each turn reads one word more, which lies within the line. Assumes nothing.
+-- `record::configuration` is safe and ends: each turn reads one word more, which lies within the line. Assumes nothing.
 use borrow.Author.Needs.{needs}
 use native.Mathlib.Omega.{arith}
 use Prim.Native.Nat.{_≤_, _-_}
 use lib.ListN.{length}
-use Rattle.replay.proofs.record.configuration.Statement.{statement}
-use Rattle.replay.proofs.record.configuration.Tie as tie
+use Rattle.record.proofs.configuration.Statement.{statement}
+use Rattle.record.proofs.configuration.Tie as tie
 
 abbrev Inv-loop : tie.InvT-loop
 Inv-loop s settings₀ at₀ i₀ settings at i = at ≤ length s
