@@ -1,8 +1,7 @@
 -- The order of the settings: what is written of a configuration makes that configuration again. Assumes nothing.
 use mathlib.Core.Path.{_≡_, refl}
 use mathlib.Core.Bool.{Bool, true, false}
-use mathlib.Core.List.{List, [], _∷_}
-use Prim.Native.Nat.{ℕ}
+use mathlib.Core.List.{[], _∷_}
 use lib.IntN.{ℤ, pos}
 use lib.ListN.{length}
 use Rattle.exact.specs.Sign.{eqZ}

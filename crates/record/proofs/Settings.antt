@@ -1,6 +1,6 @@
 -- Settings, over plain values: which words are a yes or no, and how a setting is read out of the array. Assumes nothing.
 use mathlib.Core.Path.{_≡_, refl, sym, ap, ap₂, _∙_}
-use mathlib.Core.Bool.{Bool, true, false, cond}
+use mathlib.Core.Bool.{Bool, false, cond}
 use mathlib.Core.List.{List, [], _∷_}
 use Prim.Native.Nat.{ℕ, zero, suc, _+_, _-_, _%_, _^_, _≤_, _<_}
 use native.Mathlib.Omega.{arith}
@@ -9,7 +9,7 @@ use lib.IntN.{ℤ, pos}
 use lib.ListN.{getD}
 use lib.Signed.{mag}
 use mir.Syntax.{w32}
-use mir.Val.{SFits, ofZ}
+use mir.Val.{ofZ}
 use borrow.Author.Tests.{lt-ltb, le-ltb}
 use Rattle.exact.specs.Sign.{eqZ}
 use Rattle.exact.proofs.Z.{eq32}

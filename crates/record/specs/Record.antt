@@ -1,11 +1,13 @@
 -- What a line of a recorded history says: its words, cut at each space, and what they are.
-use Prim.Native.Nat.{ℕ, _+_}
-use mathlib.Core.Bool.{Bool, true, false, cond, _&&_}
+use Prim.Native.Nat.{ℕ, _+_, _<_}
+use mathlib.Core.Path.{_≡_}
+use mathlib.Core.Bool.{Bool, true, false, cond, not, _&&_}
 use mathlib.Core.List.{List, [], _∷_, _++_}
 use lib.ListN.{length, set, replicate}
 use lib.Dec.{leb, eqb}
 use lib.IntN.{ℤ, pos}
-use Rattle.text.specs.Line.{Heard, bytes, long}
+use Rattle.register.specs.Bytes.{ascii}
+use Rattle.text.specs.Line.{Heard, bytes, long, has}
 use Rattle.text.specs.Number.{naturalOf, numberOf, flagOf}
 use Rattle.text.specs.declared.Natural.{Natural}
 use Rattle.text.specs.declared.Natural.the-variants as natural
@@ -32,6 +34,23 @@ led false b ws = grown b ws
 unfoldable pub words : List ℕ → List (List ℕ)
 words [] = [] ∷ []
 words (b ∷ s) = led (eqb b 32) b (words s)
+
+-- words with one space between two of them
+unfoldable pub joined : List (List ℕ) → List ℕ
+joined [] = []
+joined (w ∷ []) = w
+joined (w ∷ v ∷ ws) = w ++ (32 ∷ joined (v ∷ ws))
+
+-- no word has a space in it
+unfoldable pub spaceless : List (List ℕ) → Bool
+spaceless [] = true
+spaceless (w ∷ ws) = not (has 32 w) && spaceless ws
+
+-- what it is to be the words of a line
+pub record Words (s : List ℕ) (ws : List (List ℕ)) : Type 0 where
+  pub some : 0 < length ws
+  pub plain : spaceless ws ≡ true
+  pub text : joined ws ≡ s
 
 -- two words are the same
 unfoldable pub same : List ℕ → List ℕ → Bool
@@ -63,22 +82,26 @@ byteOf natural.Not place = Bad
 abbrev pub placeOf : List ℕ → Natural
 placeOf w = naturalOf 20 w
 
-unfoldable pub sampleSaid : List (List ℕ) → Event
-sampleSaid [] = Bad
-sampleSaid (n ∷ []) = sampleOf (numberOf n)
-sampleSaid (n ∷ w ∷ ws) = Bad
+-- one word, or two, and no other number of them
+unfoldable pub oneWord : (List ℕ → Event) → List (List ℕ) → Event
+oneWord f [] = Bad
+oneWord f (a ∷ []) = f a
+oneWord f (a ∷ b ∷ ws) = Bad
 
-unfoldable pub keySaid : List (List ℕ) → Event
-keySaid [] = Bad
-keySaid (n ∷ []) = Bad
-keySaid (n ∷ place ∷ []) = keyOf (numberOf n) (placeOf place)
-keySaid (n ∷ place ∷ w ∷ ws) = Bad
+unfoldable pub twoWords : (List ℕ → List ℕ → Event) → List (List ℕ) → Event
+twoWords f [] = Bad
+twoWords f (a ∷ []) = Bad
+twoWords f (a ∷ b ∷ []) = f a b
+twoWords f (a ∷ b ∷ c ∷ ws) = Bad
 
-unfoldable pub byteSaid : List (List ℕ) → Event
-byteSaid [] = Bad
-byteSaid (b ∷ []) = Bad
-byteSaid (b ∷ place ∷ []) = byteOf (naturalOf 3 b) (placeOf place)
-byteSaid (b ∷ place ∷ w ∷ ws) = Bad
+abbrev pub sampleSaid : List (List ℕ) → Event
+sampleSaid ws = oneWord (λ (n : List ℕ). sampleOf (numberOf n)) ws
+
+abbrev pub keySaid : List (List ℕ) → Event
+keySaid ws = twoWords (λ (n place : List ℕ). keyOf (numberOf n) (placeOf place)) ws
+
+abbrev pub byteSaid : List (List ℕ) → Event
+byteSaid ws = twoWords (λ (b place : List ℕ). byteOf (naturalOf 3 b) (placeOf place)) ws
 
 -- ---- CFG
 
@@ -118,17 +141,22 @@ configurationSaid ws = cond (eqb (length ws) 73 && eqb (length (settingsOf kinds
 
 -- ---- a line
 
--- the first word says which line it is; any other line is bad
-unfoldable pub said : List ℕ → List (List ℕ) → Event
-said k ws =
-    cond (same k (83 ∷ [])) (sampleSaid ws)
-    (cond (same k (75 ∷ [])) (keySaid ws)
-    (cond (same k (66 ∷ [])) (byteSaid ws)
-    (cond (same k (67 ∷ 70 ∷ 71 ∷ [])) (configurationSaid ws) Bad)))
+-- the first word says which line it is: S, K, B
+unfoldable pub shortSaid : List ℕ → List (List ℕ) → Event
+shortSaid k ws =
+    cond (same k (ascii "S")) (sampleSaid ws) (cond (same k (ascii "K")) (keySaid ws) (cond (same k (ascii "B")) (byteSaid ws) Bad))
+
+abbrev pub shortBy : List (List ℕ) → Event
+shortBy [] = Bad
+shortBy (k ∷ ws) = shortSaid k ws
+
+-- or CFG; any other line is bad
+abbrev pub isCfg : List ℕ → Bool
+isCfg k = same k (ascii "CFG")
 
 abbrev pub saidBy : List (List ℕ) → Event
 saidBy [] = Bad
-saidBy (k ∷ ws) = said k ws
+saidBy (k ∷ ws) = cond (isCfg k) (configurationSaid ws) (shortSaid k ws)
 
 unfoldable pub eventOf : List ℕ → Event
 eventOf l = saidBy (words l)
@@ -136,7 +164,7 @@ eventOf l = saidBy (words l)
 -- the settings of a line: none, where it is no `CFG`
 abbrev pub readBy : List (List ℕ) → List ℤ
 readBy [] = []
-readBy (k ∷ ws) = cond (same k (67 ∷ 70 ∷ 71 ∷ [])) (settingsOf kinds ws) []
+readBy (k ∷ ws) = cond (isCfg k) (settingsOf kinds ws) []
 
 unfoldable pub readOf : List ℕ → List ℤ
 readOf l = readBy (words l)

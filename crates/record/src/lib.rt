@@ -11,12 +11,13 @@
 // The format grows without breaking old files: a new setting comes as a further word at the end of `CFG`, where a line without it has
 // the value that leaves the meter as it was, and anything else comes as a line with a letter of its own.
 ghost use mathlib.Core.Path.{_≡_};
-ghost use mathlib.Core.Bool.{false};
-ghost use mathlib.Core.List.{List};
+ghost use mathlib.Core.Bool.{false, cond};
+ghost use mathlib.Core.List.{[], _∷_};
 ghost use Prim.Native.Nat.{_≤_, _<_};
-ghost use lib.ListN.{getD};
+ghost use lib.Dec.{eqb};
+ghost use lib.ListN.{length, getD};
 ghost use Rattle.text.specs.Line.{heard};
-ghost use Rattle.record.specs.Record.{sampleOf, keyOf, byteOf, placeOf, asNumber, settingOf, kinds};
+ghost use Rattle.record.specs.Record.{words, keyOf, byteOf, placeOf, sampleSaid, keySaid, byteSaid, asNumber, settingOf, kinds, settingsOf, configurationSaid, shortSaid, shortBy, eventOf, readOf, stored, eventHeard, readHeard};
 ghost use Rattle.record.specs.Configuration.{inTurn, scaleOf, totalizerOf, alarmOf, printOf, configOf};
 use alarm::Settings;
 use config::Analog;
@@ -45,7 +46,9 @@ fn place(s: &[u8]) -> Natural
     text::read_natural(20, s)
 }
 
-fn sample(s: &[u8]) -> Event {
+fn sample(s: &[u8]) -> Event
+    ensures { λ r. ⌜ r ≡ sampleSaid (words (now (s .entry))) ⌝ }
+{
     let n = text::read_number(s);
     match n {
         Number::Is(v) => Event::Sample(v),
@@ -81,7 +84,9 @@ fn byte_at(n: Natural, p: Natural) -> Event
     }
 }
 
-fn key(s: &[u8]) -> Event {
+fn key(s: &[u8]) -> Event
+    ensures { λ r. ⌜ r ≡ keySaid (words (now (s .entry))) ⌝ }
+{
     let e = text::word_end(s, 0);
     if e < s.len() {
         key_at(text::read_number(&s[0..e]), place(&s[e + 1..]))
@@ -90,7 +95,9 @@ fn key(s: &[u8]) -> Event {
     }
 }
 
-fn byte(s: &[u8]) -> Event {
+fn byte(s: &[u8]) -> Event
+    ensures { λ r. ⌜ r ≡ byteSaid (words (now (s .entry))) ⌝ }
+{
     let e = text::word_end(s, 0);
     if e < s.len() {
         byte_at(text::read_natural(3, &s[0..e]), place(&s[e + 1..]))
@@ -134,7 +141,10 @@ fn setting(i: usize, s: &[u8]) -> Number
 }
 
 // The words of a configuration, as many as there are places for them.
-fn configuration(s: &[u8], settings: &mut [i32; 73]) -> Event {
+fn configuration(s: &[u8], settings: &mut [i32; 73]) -> Event
+    ensures { λ r. ⌜ r ≡ configurationSaid (words (now (s .entry))) ⌝ }
+    ensures { λ _. ⌜ now (settings .exit) ≡ stored 0 (now (settings .entry)) (settingsOf kinds (words (now (s .entry)))) ⌝ }
+{
     let mut at = 0;
     let mut i = 0;
     while i < 73 {
@@ -154,8 +164,10 @@ fn configuration(s: &[u8], settings: &mut [i32; 73]) -> Event {
 }
 
 // A line that ends after so many words.
-fn ended(words: usize) -> Event {
-    if words == 73 {
+fn ended(count: usize) -> Event
+    ensures { λ r. ⌜ r ≡ cond (eqb count 73) Event.Configuration Event.Bad ⌝ }
+{
+    if count == 73 {
         Event::Configuration
     } else {
         Event::Bad
@@ -163,7 +175,9 @@ fn ended(words: usize) -> Event {
 }
 
 // A line of one letter, a space and the rest.
-fn short(k: u8, s: &[u8]) -> Event {
+fn short(k: u8, s: &[u8]) -> Event
+    ensures { λ r. ⌜ r ≡ shortSaid (k ∷ []) (words (now (s .entry))) ⌝ }
+{
     match k {
         b'S' => sample(s),
         b'K' => key(s),
@@ -173,7 +187,10 @@ fn short(k: u8, s: &[u8]) -> Event {
 }
 
 // A line, as its bytes without the LF.
-fn parse(s: &[u8], settings: &mut [i32; 73]) -> Event {
+fn parse(s: &[u8], settings: &mut [i32; 73]) -> Event
+    ensures { λ r. ⌜ r ≡ eventOf (now (s .entry)) ⌝ }
+    ensures { λ _. ⌜ now (settings .exit) ≡ stored 0 (now (settings .entry)) (readOf (now (s .entry))) ⌝ }
+{
     if s.len() < 4 {
         return brief(s);
     }
@@ -184,7 +201,9 @@ fn parse(s: &[u8], settings: &mut [i32; 73]) -> Event {
 }
 
 // A line of one letter and what belongs to it.
-fn brief(s: &[u8]) -> Event {
+fn brief(s: &[u8]) -> Event
+    ensures { λ r. ⌜ r ≡ shortBy (words (now (s .entry))) ⌝ }
+{
     if s.len() < 3 {
         return Event::Bad;
     }
@@ -195,7 +214,10 @@ fn brief(s: &[u8]) -> Event {
 }
 
 // The line of an array and a count.
-pub fn judge(line: &[u8; 1024], len: usize, settings: &mut [i32; 73]) -> Event {
+pub fn judge(line: &[u8; 1024], len: usize, settings: &mut [i32; 73]) -> Event
+    ensures { λ r. ⌜ r ≡ eventHeard (heard (now (line .entry)) len) ⌝ }
+    ensures { λ _. ⌜ now (settings .exit) ≡ stored 0 (now (settings .entry)) (readHeard (heard (now (line .entry)) len)) ⌝ }
+{
     let s: &[u8] = line;
     if s.len() < len {
         return Event::Bad;
@@ -299,11 +321,18 @@ fn print_of(s: &[i32; 73]) -> Print
     }
 }
 
+// An array by value tells how many it holds.
+fn sized(s: [i32; 73])
+    ensures { λ _. ⌜ length s ≡ 73 ⌝ }
+{}
+
 // The configuration of its 73 words: node, places of input and total, rounding, number of points, 16 points, factor, time base, low
 // cut, four alarms, capture, analog low and high, batch, abbreviated, and what a block prints.
 pub fn config_of(s: &[i32; 73]) -> Config
     ensures { λ r. ⌜ r ≡ configOf (now (s .entry)) ⌝ }
+    ensures { λ _. ⌜ length (now (s .entry)) ≡ 73 ⌝ }
 {
+    sized(*s);
     let scale = scale_of(s);
     let totalizer = totalizer_of(s);
     let first = alarm_at(s, 40);
