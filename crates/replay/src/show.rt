@@ -2,7 +2,10 @@
 ghost use mathlib.Core.Path.{_≡_};
 ghost use Prim.Native.Nat.{_≤_};
 ghost use lib.IntN.{natAbs};
+ghost use mathlib.Core.List.{[], _∷_};
 ghost use lib.ListN.{length};
+ghost use Rattle.text.specs.Output.{waiting, puts};
+ghost use Rattle.replay.specs.Show.{numeral, answerPieces, powerLine};
 use alarm::Alarm;
 use answer::Answer;
 use extremes::Extreme;
@@ -26,7 +29,9 @@ fn size_of(z: i64) -> u64
     }
 }
 
-fn put_natural(buf: &mut [u8], o: Out, n: u64) -> Out {
+fn put_natural(buf: &mut [u8], o: Out, n: u64) -> Out
+    ensures { λ r. ⌜ waiting (r .at) (now (buf .exit)) ≡ puts (waiting (o .at) (now (buf .entry))) (numeral n ∷ []) ⌝ }
+{
     let mut digits = [0u8; 20];
     let k = io::decimal(n, &mut digits);
     put(buf, o, &digits[..k])
@@ -215,17 +220,20 @@ fn put_buffer(buf: &mut [u8], o: Out, buffer: &[u8]) -> Out {
     put(&mut *buf, q, b"\n")
 }
 
-// The answer's two numbers, with what stands before each.
-fn put_answer(buf: &mut [u8], o: Out, before: &[u8], a: Answer, between: &[u8]) -> Out {
-    let p = put(&mut *buf, o, before);
-    let q = put_natural(&mut *buf, p, answer::number(a));
-    let r = put(&mut *buf, q, between);
-    put_natural(&mut *buf, r, answer::value(a))
+// The answer's two numbers, with what stands between them.
+fn put_answer(buf: &mut [u8], o: Out, a: Answer, between: &[u8]) -> Out
+    ensures { λ r. ⌜ waiting (r .at) (now (buf .exit)) ≡ puts (waiting (o .at) (now (buf .entry))) (answerPieces a (now (between .entry))) ⌝ }
+{
+    let p = put_natural(&mut *buf, o, answer::number(a));
+    let q = put(&mut *buf, p, between);
+    put_natural(&mut *buf, q, answer::value(a))
 }
 
 // The line of a configuration.
-pub fn put_power_up(buf: &mut [u8], o: Out, a: Answer) -> Out {
-    let p = put_answer(&mut *buf, o, b"", a, b" ");
+pub fn put_power_up(buf: &mut [u8], o: Out, a: Answer) -> Out
+    ensures { λ r. ⌜ waiting (r .at) (now (buf .exit)) ≡ puts (waiting (o .at) (now (buf .entry))) (powerLine a) ⌝ }
+{
+    let p = put_answer(&mut *buf, o, a, b" ");
     put(&mut *buf, p, b"\n")
 }
 
@@ -250,7 +258,8 @@ fn is_not_started(a: Answer) -> bool {
 
 // The line of an event.
 pub fn put_event(buf: &mut [u8], o: Out, a: Answer, m: Meter, buffer: &[u8]) -> Out {
-    let p = put_answer(&mut *buf, o, b"A=", a, b" V=");
+    let begun = put(&mut *buf, o, b"A=");
+    let p = put_answer(&mut *buf, begun, a, b" V=");
     if is_not_started(a) {
         return put_buffer(&mut *buf, p, buffer);
     }
