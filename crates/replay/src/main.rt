@@ -1,11 +1,19 @@
 // Any recorded history carried out again: each line of standard input is a configuration, a sample, a key or a received byte, and for
 // each one line is printed that shows the answer, the whole state of the meter and the reply buffer. `?` stands for any other line,
-// which changes nothing. `record.rt` has the lines, `show.rt` what is printed.
+// which changes nothing. The crate `record` has the lines, `show.rt` what is printed.
 //
 // Standard input is read in blocks, and standard output written in blocks, so the memory is the same for any input.
-mod record;
 mod show;
 
+ghost use Prim.Native.Nat.{ℕ};
+ghost use mathlib.Core.Path.{_≡_};
+ghost use mathlib.Core.Bool.{cond};
+ghost use mathlib.Core.List.{List};
+ghost use lib.Dec.{eqb};
+ghost use lib.ListN.{length};
+ghost use Rattle.text.specs.Line.{heard, Stands, Ran};
+ghost use Rattle.record.specs.Configuration.{configOf};
+ghost use Rattle.replay.specs.Replay.{filled, powerStep, sampleStep, keyStep, byteStep, asPowered, asTold, effect, stand, heardBy};
 use answer::Answer;
 use libc::STDERR_FILENO;
 use libc::STDIN_FILENO;
@@ -14,6 +22,19 @@ use meter::Outcome;
 use record::Event;
 use text::Step;
 use text::output::Out;
+
+// What is shown of a line: the answer of a configuration, or an event's with the whole state, or that it is no line of a history.
+enum Said {
+    PoweredUp(Answer),
+    Answered(Answer),
+    Unknown,
+}
+
+// What a line did.
+struct Told {
+    meter: Meter,
+    said: Said,
+}
 
 // Between two bytes: the meter, the count of the line that is being read, and the output.
 struct State {
@@ -28,8 +49,12 @@ struct Turn {
     more: bool,
 }
 
+// ---- one line
+
 // The buffer of a configuration's line: EE (hex) everywhere.
-fn fill(buffer: &mut [u8]) {
+fn fill(buffer: &mut [u8])
+    ensures { λ _. ⌜ now (buffer .exit) ≡ filled (now (buffer .entry)) ⌝ }
+{
     let mut i = 0;
     while i < buffer.len() {
         buffer[i] = 238;
@@ -37,29 +62,93 @@ fn fill(buffer: &mut [u8]) {
     }
 }
 
-// An event of the meter, and its line.
-fn shown(buffer: &[u8], buf: &mut [u8], out: Out, o: Outcome) -> State {
+// A new meter of 73 settings, and its buffer filled anew.
+fn power_up(settings: &[i32; 73], buffer: &mut [u8]) -> Outcome
+    ensures { λ r. ⌜ r ≡ powerStep (configOf (now (settings .entry))) (now (buffer .entry)) .outcome ⌝ }
+    ensures { λ _. ⌜ now (buffer .exit) ≡ powerStep (configOf (now (settings .entry))) (now (buffer .entry)) .buffer ⌝ }
+    ensures { λ _. ⌜ length (now (settings .entry)) ≡ 73 ⌝ }
+{
+    let config = record::config_of(settings);
+    fill(buffer);
+    Meter::power_up(config)
+}
+
+fn sample(m: Meter, n: i32) -> Outcome
+    ensures { λ r. ⌜ ((buffer : List ℕ) → r ≡ sampleStep m n buffer .outcome) ⌝ }
+{
+    m.sample(n)
+}
+
+fn key(m: Meter, n: i32, place: usize, buffer: &mut [u8]) -> Outcome
+    ensures { λ r. ⌜ r ≡ keyStep m n place (now (buffer .entry)) .outcome ⌝ }
+    ensures { λ _. ⌜ now (buffer .exit) ≡ keyStep m n place (now (buffer .entry)) .buffer ⌝ }
+{
+    m.key(n, buffer, place)
+}
+
+fn byte(m: Meter, b: u8, place: usize, buffer: &mut [u8]) -> Outcome
+    ensures { λ r. ⌜ r ≡ byteStep m b place (now (buffer .entry)) .outcome ⌝ }
+    ensures { λ _. ⌜ now (buffer .exit) ≡ byteStep m b place (now (buffer .entry)) .buffer ⌝ }
+{
+    m.byte(b, buffer, place)
+}
+
+fn as_powered(o: Outcome) -> Told
+    ensures { λ r. ⌜ r ≡ asPowered o ⌝ }
+{
     let answer = o.answer;
     let meter = o.meter;
-    State {
+    Told {
         meter,
-        len: 0,
-        out: show::put_event(buf, out, answer, meter, buffer),
+        said: Said::PoweredUp(answer),
     }
 }
 
-// A configuration, whose line is the answer alone.
-fn powered(settings: &[i32; 73], buffer: &mut [u8], buf: &mut [u8], out: Out) -> State {
-    let o = Meter::power_up(record::config_of(settings));
-    fill(&mut *buffer);
+fn as_told(o: Outcome) -> Told
+    ensures { λ r. ⌜ r ≡ asTold o ⌝ }
+{
     let answer = o.answer;
     let meter = o.meter;
-    State {
+    Told {
         meter,
-        len: 0,
-        out: show::put_power_up(buf, out, answer),
+        said: Said::Answered(answer),
     }
 }
+
+// A whole line.
+fn event(
+    m: Meter,
+    line: &[u8; 1024],
+    len: usize,
+    settings: &mut [i32; 73],
+    buffer: &mut [u8],
+) -> Told
+    ensures { λ r. ⌜ r ≡ effect m (now (buffer .entry)) (heard (now (line .entry)) len) .told ⌝ }
+    ensures { λ _. ⌜ now (buffer .exit) ≡ effect m (now (buffer .entry)) (heard (now (line .entry)) len) .buffer ⌝ }
+{
+    let e = record::judge(line, len, &mut *settings);
+    match e {
+        Event::Configuration => as_powered(power_up(&*settings, buffer)),
+        Event::Sample(n) => as_told(sample(m, n)),
+        Event::Key(n, place) => as_told(key(m, n, place, buffer)),
+        Event::Byte(b, place) => as_told(byte(m, b, place, buffer)),
+        Event::Bad => Told {
+            meter: m,
+            said: Said::Unknown,
+        },
+    }
+}
+
+// What is shown of a line.
+fn put_said(buf: &mut [u8], o: Out, said: Said, m: Meter, buffer: &[u8]) -> Out {
+    match said {
+        Said::PoweredUp(a) => show::put_power_up(buf, o, a),
+        Said::Answered(a) => show::put_event(buf, o, a, m, buffer),
+        Said::Unknown => text::output::put(buf, o, b"?\n"),
+    }
+}
+
+// ---- the stream
 
 // A line that has ended: its event, and its line of the output.
 fn answered(
@@ -69,26 +158,15 @@ fn answered(
     buffer: &mut [u8],
     buf: &mut [u8],
     s: State,
-) -> State {
-    let m = s.meter;
-    let event = record::judge(line, len, &mut *settings);
-    match event {
-        Event::Configuration => powered(&*settings, &mut *buffer, &mut *buf, s.out),
-        Event::Sample(v) => shown(&*buffer, &mut *buf, s.out, m.sample(v)),
-        Event::Key(n, place) => {
-            let o = m.key(n, &mut *buffer, place);
-            shown(&*buffer, &mut *buf, s.out, o)
-        }
-        Event::Byte(b, place) => {
-            let o = m.byte(b, &mut *buffer, place);
-            shown(&*buffer, &mut *buf, s.out, o)
-        }
-        Event::Bad => State {
-            meter: m,
-            len: 0,
-            out: text::output::put(&mut *buf, s.out, b"?\n"),
-        },
-    }
+) -> State
+    ensures { λ r. ⌜ r .len ≡ 0 ⌝ }
+    ensures { λ r. ⌜ stand (r .meter) (now (buffer .exit)) ≡ heardBy (stand (s .meter) (now (buffer .entry))) (heard (now (line .entry)) len) ⌝ }
+{
+    let t = event(s.meter, line, len, settings, &mut *buffer);
+    let said = t.said;
+    let meter = t.meter;
+    let out = put_said(buf, s.out, said, meter, &*buffer);
+    State { meter, len: 0, out }
 }
 
 // After a step of the line: the event, where it ended.
@@ -99,7 +177,10 @@ fn stepped(
     buf: &mut [u8],
     s: State,
     f: Step,
-) -> State {
+) -> State
+    ensures { λ r. ⌜ r .len ≡ cond (f .ended) 0 (f .len) ⌝ }
+    ensures { λ r. ⌜ stand (r .meter) (now (buffer .exit)) ≡ cond (f .ended) (heardBy (stand (s .meter) (now (buffer .entry))) (heard (now (line .entry)) (f .len))) (stand (s .meter) (now (buffer .entry))) ⌝ }
+{
     if f.ended {
         return answered(line, f.len, settings, buffer, buf, s);
     }
@@ -116,7 +197,10 @@ fn lines(
     buffer: &mut [u8],
     buf: &mut [u8],
     s: State,
-) -> State {
+) -> State
+    ensures { λ r. ⌜ ((l : List ℕ) → Stands l (now (line .entry)) (s .len)
+        → Ran heardBy (now (block .entry)) l (stand (s .meter) (now (buffer .entry))) (stand (r .meter) (now (buffer .exit))) (now (line .exit)) (r .len)) ⌝ }
+{
     let mut t = s;
     let mut at = 0;
     while at < block.len() {
@@ -166,7 +250,9 @@ fn end(
     buffer: &mut [u8],
     buf: &mut [u8],
     s: State,
-) -> State {
+) -> State
+    ensures { λ r. ⌜ stand (r .meter) (now (buffer .exit)) ≡ cond (eqb (s .len) 0) (stand (s .meter) (now (buffer .entry))) (heardBy (stand (s .meter) (now (buffer .entry))) (heard (now (line .entry)) (s .len))) ⌝ }
+{
     if s.len == 0 {
         return s;
     }

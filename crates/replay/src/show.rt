@@ -2,7 +2,10 @@
 ghost use mathlib.Core.Path.{_≡_};
 ghost use Prim.Native.Nat.{_≤_};
 ghost use lib.IntN.{natAbs};
-ghost use lib.ListN.{length};
+ghost use mathlib.Core.List.{[], _∷_};
+ghost use lib.ListN.{length, take};
+ghost use Rattle.text.specs.Output.{waiting, puts};
+ghost use Rattle.replay.specs.Show.{numeral, signed, named, counted, hexByte, hex, answerPieces, powerLine, readingWord, quotientOf, totalWords, trimmed, bufferWords, extremeWords, measuredWords, setpointWords, onDigit, stateWords, runWords, alarmWords, modeWords, drivenWords, receivedWords, meterWords, isNotStarted, eventLine};
 use alarm::Alarm;
 use answer::Answer;
 use extremes::Extreme;
@@ -26,13 +29,17 @@ fn size_of(z: i64) -> u64
     }
 }
 
-fn put_natural(buf: &mut [u8], o: Out, n: u64) -> Out {
+fn put_natural(buf: &mut [u8], o: Out, n: u64) -> Out
+    ensures { λ r. ⌜ waiting (r .at) (now (buf .exit)) ≡ puts (waiting (o .at) (now (buf .entry))) (numeral n ∷ []) ⌝ }
+{
     let mut digits = [0u8; 20];
     let k = io::decimal(n, &mut digits);
     put(buf, o, &digits[..k])
 }
 
-fn put_number(buf: &mut [u8], o: Out, z: i64) -> Out {
+fn put_number(buf: &mut [u8], o: Out, z: i64) -> Out
+    ensures { λ r. ⌜ waiting (r .at) (now (buf .exit)) ≡ puts (waiting (o .at) (now (buf .entry))) (signed z) ⌝ }
+{
     if z < 0 {
         let p = put(&mut *buf, o, b"-");
         return put_natural(&mut *buf, p, size_of(z));
@@ -41,23 +48,31 @@ fn put_number(buf: &mut [u8], o: Out, z: i64) -> Out {
 }
 
 // A word of the line: its name, and a number.
-fn put_named(buf: &mut [u8], o: Out, name: &[u8], z: i64) -> Out {
+fn put_named(buf: &mut [u8], o: Out, name: &[u8], z: i64) -> Out
+    ensures { λ r. ⌜ waiting (r .at) (now (buf .exit)) ≡ puts (waiting (o .at) (now (buf .entry))) (named (now (name .entry)) z) ⌝ }
+{
     let p = put(&mut *buf, o, name);
     put_number(&mut *buf, p, z)
 }
 
-fn put_signed(buf: &mut [u8], o: Out, name: &[u8], z: i32) -> Out {
+fn put_signed(buf: &mut [u8], o: Out, name: &[u8], z: i32) -> Out
+    ensures { λ r. ⌜ waiting (r .at) (now (buf .exit)) ≡ puts (waiting (o .at) (now (buf .entry))) (named (now (name .entry)) z) ⌝ }
+{
     put_named(buf, o, name, z as i64)
 }
 
-fn put_count(buf: &mut [u8], o: Out, name: &[u8], n: u32) -> Out {
+fn put_count(buf: &mut [u8], o: Out, name: &[u8], n: u32) -> Out
+    ensures { λ r. ⌜ waiting (r .at) (now (buf .exit)) ≡ puts (waiting (o .at) (now (buf .entry))) (counted (now (name .entry)) n) ⌝ }
+{
     let p = put(&mut *buf, o, name);
     put_natural(&mut *buf, p, n as u64)
 }
 
 const HEX: [u8; 16] = *b"0123456789abcdef";
 
-fn put_hex_byte(buf: &mut [u8], o: Out, b: u8) -> Out {
+fn put_hex_byte(buf: &mut [u8], o: Out, b: u8) -> Out
+    ensures { λ r. ⌜ waiting (r .at) (now (buf .exit)) ≡ puts (waiting (o .at) (now (buf .entry))) (hexByte b ∷ []) ⌝ }
+{
     let high = (b / 16) as usize;
     let low = (b % 16) as usize;
     let two = [HEX[high], HEX[low]];
@@ -65,7 +80,9 @@ fn put_hex_byte(buf: &mut [u8], o: Out, b: u8) -> Out {
 }
 
 // Bytes in hexadecimal, or a dash where there are none.
-fn put_hex(buf: &mut [u8], o: Out, s: &[u8]) -> Out {
+fn put_hex(buf: &mut [u8], o: Out, s: &[u8]) -> Out
+    ensures { λ r. ⌜ waiting (r .at) (now (buf .exit)) ≡ puts (waiting (o .at) (now (buf .entry))) (hex (now (s .entry))) ⌝ }
+{
     if s.len() == 0 {
         return put(&mut *buf, o, b"-");
     }
@@ -78,25 +95,38 @@ fn put_hex(buf: &mut [u8], o: Out, s: &[u8]) -> Out {
     p
 }
 
-fn put_reading(buf: &mut [u8], o: Out, name: &[u8], reading: Reading) -> Out {
+// A name, and a word.
+fn put_two(buf: &mut [u8], o: Out, name: &[u8], word: &[u8]) -> Out
+    ensures { λ r. ⌜ waiting (r .at) (now (buf .exit)) ≡ puts (waiting (o .at) (now (buf .entry))) (now (name .entry) ∷ now (word .entry) ∷ []) ⌝ }
+{
     let p = put(&mut *buf, o, name);
+    put(&mut *buf, p, word)
+}
+
+fn put_reading(buf: &mut [u8], o: Out, name: &[u8], reading: Reading) -> Out
+    ensures { λ r. ⌜ waiting (r .at) (now (buf .exit)) ≡ puts (waiting (o .at) (now (buf .entry))) (readingWord (now (name .entry)) reading) ⌝ }
+{
     match reading {
-        Reading::Nothing => put(&mut *buf, p, b"--"),
-        Reading::Under => put(&mut *buf, p, b"UL"),
-        Reading::Number(v) => put_signed(&mut *buf, p, b"", v),
-        Reading::Over => put(&mut *buf, p, b"OL"),
+        Reading::Nothing => put_two(buf, o, name, b"--"),
+        Reading::Under => put_two(buf, o, name, b"UL"),
+        Reading::Number(v) => put_signed(buf, o, name, v),
+        Reading::Over => put_two(buf, o, name, b"OL"),
     }
 }
 
 // The total of a sum, where the time base is one that can be.
-fn quotient(sum: i64, time_base: i32) -> i64 {
+fn quotient(sum: i64, time_base: i32) -> i64
+    ensures { λ r. ⌜ r ≡ quotientOf sum «time_base» ⌝ }
+{
     if time_base < 1 {
         return 0;
     }
     exact::cut(sum, 20000 * time_base as i64)
 }
 
-fn put_total(buf: &mut [u8], o: Out, t: Total, time_base: i32) -> Out {
+fn put_total(buf: &mut [u8], o: Out, t: Total, time_base: i32) -> Out
+    ensures { λ r. ⌜ waiting (r .at) (now (buf .exit)) ≡ puts (waiting (o .at) (now (buf .entry))) (totalWords t «time_base») ⌝ }
+{
     let p = put_named(&mut *buf, o, b" SUM=", t.sum);
     let range = t.range;
     match range {
@@ -106,14 +136,18 @@ fn put_total(buf: &mut [u8], o: Out, t: Total, time_base: i32) -> Out {
     }
 }
 
-fn put_extremes(buf: &mut [u8], o: Out, max: Extreme, min: Extreme) -> Out {
+fn put_extremes(buf: &mut [u8], o: Out, max: Extreme, min: Extreme) -> Out
+    ensures { λ r. ⌜ waiting (r .at) (now (buf .exit)) ≡ puts (waiting (o .at) (now (buf .entry))) (extremeWords max min) ⌝ }
+{
     let p = put_reading(&mut *buf, o, b" MAX=", extremes::shown(max));
     let q = put_reading(&mut *buf, p, b" MIN=", extremes::shown(min));
     let r = put_count(&mut *buf, q, b" MR=", max.run);
     put_count(&mut *buf, r, b" NR=", min.run)
 }
 
-fn put_setpoints(buf: &mut [u8], o: Out, alarms: [Alarm; 4]) -> Out {
+fn put_setpoints(buf: &mut [u8], o: Out, alarms: [Alarm; 4]) -> Out
+    ensures { λ r. ⌜ waiting (r .at) (now (buf .exit)) ≡ puts (waiting (o .at) (now (buf .entry))) (setpointWords alarms) ⌝ }
+{
     let a = alarms[0];
     let b = alarms[1];
     let c = alarms[2];
@@ -124,11 +158,15 @@ fn put_setpoints(buf: &mut [u8], o: Out, alarms: [Alarm; 4]) -> Out {
     put_signed(&mut *buf, r, b",", d.setpoint)
 }
 
-fn on_digit(a: Alarm) -> u8 {
+fn on_digit(a: Alarm) -> u8
+    ensures { λ r. ⌜ r ≡ onDigit a ⌝ }
+{
     if a.on { b'1' } else { b'0' }
 }
 
-fn put_states(buf: &mut [u8], o: Out, alarms: [Alarm; 4]) -> Out {
+fn put_states(buf: &mut [u8], o: Out, alarms: [Alarm; 4]) -> Out
+    ensures { λ r. ⌜ waiting (r .at) (now (buf .exit)) ≡ puts (waiting (o .at) (now (buf .entry))) (stateWords alarms) ⌝ }
+{
     let p = put(&mut *buf, o, b" AL=");
     let on = [
         on_digit(alarms[0]),
@@ -139,7 +177,9 @@ fn put_states(buf: &mut [u8], o: Out, alarms: [Alarm; 4]) -> Out {
     put(&mut *buf, p, &on)
 }
 
-fn put_runs(buf: &mut [u8], o: Out, alarms: [Alarm; 4]) -> Out {
+fn put_runs(buf: &mut [u8], o: Out, alarms: [Alarm; 4]) -> Out
+    ensures { λ r. ⌜ waiting (r .at) (now (buf .exit)) ≡ puts (waiting (o .at) (now (buf .entry))) (runWords alarms) ⌝ }
+{
     let a = alarms[0];
     let b = alarms[1];
     let c = alarms[2];
@@ -150,13 +190,17 @@ fn put_runs(buf: &mut [u8], o: Out, alarms: [Alarm; 4]) -> Out {
     put_count(&mut *buf, r, b",", d.run)
 }
 
-fn put_alarms(buf: &mut [u8], o: Out, alarms: [Alarm; 4]) -> Out {
+fn put_alarms(buf: &mut [u8], o: Out, alarms: [Alarm; 4]) -> Out
+    ensures { λ r. ⌜ waiting (r .at) (now (buf .exit)) ≡ puts (waiting (o .at) (now (buf .entry))) (alarmWords alarms) ⌝ }
+{
     let p = put_setpoints(&mut *buf, o, alarms);
     let q = put_states(&mut *buf, p, alarms);
     put_runs(&mut *buf, q, alarms)
 }
 
-fn put_mode(buf: &mut [u8], o: Out, mode: Mode) -> Out {
+fn put_mode(buf: &mut [u8], o: Out, mode: Mode) -> Out
+    ensures { λ r. ⌜ waiting (r .at) (now (buf .exit)) ≡ puts (waiting (o .at) (now (buf .entry))) (modeWords mode) ⌝ }
+{
     match mode {
         Mode::Automatic => put(buf, o, b" MODE=A MAN=0"),
         Mode::Manual(outputs) => put_count(buf, o, b" MODE=M MAN=", outputs as u32),
@@ -164,7 +208,9 @@ fn put_mode(buf: &mut [u8], o: Out, mode: Mode) -> Out {
 }
 
 // What was measured: reading, total, max and min.
-fn put_measured(buf: &mut [u8], o: Out, i: Instrument, time_base: i32) -> Out {
+fn put_measured(buf: &mut [u8], o: Out, i: Instrument, time_base: i32) -> Out
+    ensures { λ r. ⌜ waiting (r .at) (now (buf .exit)) ≡ puts (waiting (o .at) (now (buf .entry))) (measuredWords i «time_base») ⌝ }
+{
     let reading = i.reading;
     let total = i.total;
     let max = i.max;
@@ -175,7 +221,9 @@ fn put_measured(buf: &mut [u8], o: Out, i: Instrument, time_base: i32) -> Out {
 }
 
 // What is driven: alarms, analog code, mode.
-fn put_driven(buf: &mut [u8], o: Out, i: Instrument) -> Out {
+fn put_driven(buf: &mut [u8], o: Out, i: Instrument) -> Out
+    ensures { λ r. ⌜ waiting (r .at) (now (buf .exit)) ≡ puts (waiting (o .at) (now (buf .entry))) (drivenWords i) ⌝ }
+{
     let alarms = i.alarms;
     let mode = i.mode;
     let p = put_alarms(&mut *buf, o, alarms);
@@ -184,7 +232,9 @@ fn put_driven(buf: &mut [u8], o: Out, i: Instrument) -> Out {
 }
 
 // The half received string, or that it is too long.
-fn put_received(buf: &mut [u8], o: Out, bytes: &[u8; 32], length: usize) -> Out {
+fn put_received(buf: &mut [u8], o: Out, bytes: &[u8; 32], length: usize) -> Out
+    ensures { λ r. ⌜ waiting (r .at) (now (buf .exit)) ≡ puts (waiting (o .at) (now (buf .entry))) (receivedWords (now (bytes .entry)) length) ⌝ }
+{
     let held: &[u8] = bytes;
     let p = put(&mut *buf, o, b" RX=");
     if held.len() < length {
@@ -197,6 +247,7 @@ fn put_received(buf: &mut [u8], o: Out, bytes: &[u8; 32], length: usize) -> Out 
 // How many bytes the buffer has without the EE at its end.
 fn filled(buffer: &[u8]) -> usize
     ensures { λ r. ⌜ r ≤ length (now (buffer .entry)) ⌝ }
+    ensures { λ r. ⌜ take r (now (buffer .entry)) ≡ trimmed (now (buffer .entry)) ⌝ }
 {
     let mut n = buffer.len();
     while 0 < n {
@@ -208,28 +259,35 @@ fn filled(buffer: &[u8]) -> usize
     0
 }
 
-fn put_buffer(buf: &mut [u8], o: Out, buffer: &[u8]) -> Out {
+fn put_buffer(buf: &mut [u8], o: Out, buffer: &[u8]) -> Out
+    ensures { λ r. ⌜ waiting (r .at) (now (buf .exit)) ≡ puts (waiting (o .at) (now (buf .entry))) (bufferWords (now (buffer .entry))) ⌝ }
+{
     let n = filled(buffer);
     let p = put(&mut *buf, o, b" BUF=");
     let q = put_hex(&mut *buf, p, &buffer[0..n]);
     put(&mut *buf, q, b"\n")
 }
 
-// The answer's two numbers, with what stands before each.
-fn put_answer(buf: &mut [u8], o: Out, before: &[u8], a: Answer, between: &[u8]) -> Out {
-    let p = put(&mut *buf, o, before);
-    let q = put_natural(&mut *buf, p, answer::number(a));
-    let r = put(&mut *buf, q, between);
-    put_natural(&mut *buf, r, answer::value(a))
+// The answer's two numbers, with what stands between them.
+fn put_answer(buf: &mut [u8], o: Out, a: Answer, between: &[u8]) -> Out
+    ensures { λ r. ⌜ waiting (r .at) (now (buf .exit)) ≡ puts (waiting (o .at) (now (buf .entry))) (answerPieces a (now (between .entry))) ⌝ }
+{
+    let p = put_natural(&mut *buf, o, answer::number(a));
+    let q = put(&mut *buf, p, between);
+    put_natural(&mut *buf, q, answer::value(a))
 }
 
 // The line of a configuration.
-pub fn put_power_up(buf: &mut [u8], o: Out, a: Answer) -> Out {
-    let p = put_answer(&mut *buf, o, b"", a, b" ");
+pub fn put_power_up(buf: &mut [u8], o: Out, a: Answer) -> Out
+    ensures { λ r. ⌜ waiting (r .at) (now (buf .exit)) ≡ puts (waiting (o .at) (now (buf .entry))) (powerLine a) ⌝ }
+{
+    let p = put_answer(&mut *buf, o, a, b" ");
     put(&mut *buf, p, b"\n")
 }
 
-fn put_state(buf: &mut [u8], o: Out, m: Meter) -> Out {
+fn put_state(buf: &mut [u8], o: Out, m: Meter) -> Out
+    ensures { λ r. ⌜ waiting (r .at) (now (buf .exit)) ≡ puts (waiting (o .at) (now (buf .entry))) (meterWords m) ⌝ }
+{
     let config = m.config;
     let totalizer = config.totalizer;
     let instrument = m.instrument;
@@ -240,17 +298,18 @@ fn put_state(buf: &mut [u8], o: Out, m: Meter) -> Out {
 }
 
 // Whether the meter is not started, and so has no state to show.
-fn is_not_started(a: Answer) -> bool {
-    if let Answer::NotStarted = a {
-        true
-    } else {
-        false
-    }
+fn is_not_started(a: Answer) -> bool
+    ensures { λ r. ⌜ r ≡ isNotStarted a ⌝ }
+{
+    answer::number(a) == 12
 }
 
 // The line of an event.
-pub fn put_event(buf: &mut [u8], o: Out, a: Answer, m: Meter, buffer: &[u8]) -> Out {
-    let p = put_answer(&mut *buf, o, b"A=", a, b" V=");
+pub fn put_event(buf: &mut [u8], o: Out, a: Answer, m: Meter, buffer: &[u8]) -> Out
+    ensures { λ r. ⌜ waiting (r .at) (now (buf .exit)) ≡ puts (waiting (o .at) (now (buf .entry))) (eventLine a m (now (buffer .entry))) ⌝ }
+{
+    let begun = put(&mut *buf, o, b"A=");
+    let p = put_answer(&mut *buf, begun, a, b" V=");
     if is_not_started(a) {
         return put_buffer(&mut *buf, p, buffer);
     }

@@ -3,3 +3,4 @@ pub mod Numbers
 pub mod Lines
 pub mod Streams
 pub mod Cases
+pub mod Waits

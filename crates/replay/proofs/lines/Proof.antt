@@ -1,24 +1,28 @@
--- `replay::lines` is safe and ends: each turn reads on in the block. Assumes nothing.
+-- `replay::lines` meets its contract: it is kept which lines have ended and which bytes came since, and each turn reads on in the block.
+-- Assumes nothing.
 use borrow.Author.Needs.{needs}
 use native.Mathlib.Omega.{arith}
 use mathlib.Core.Path.{_≡_, refl, subst, _∙_}
 use Prim.Native.Nat.{ℕ, _≤_, _-_}
 use mathlib.Core.List.{List}
 use lib.ListN.{length}
-use Rattle.text.specs.Line.{Used}
+use Rattle.text.specs.Line.{Used, Stands}
 use Rattle.text.proofs.Laws.{length-rest}
+use Rattle.text.proofs.Streams.{Reached, begins, steps, ends}
+use Rattle.replay.specs.Replay.{stand, heardBy}
 use Rattle.replay.proofs.lines.Statement.{statement}
 use Rattle.replay.proofs.lines.Tie as tie
 
 abbrev Inv-loop : tie.InvT-loop
 Inv-loop block line₀ settings₀ buffer₀ buf₀ t₀ at₀ line settings buffer buf t at =
     (at ≤ length block) × (length buffer ≡ length buffer₀) × (length buf ≡ length buf₀)
+    × ((l : List ℕ) → Stands l line₀ (t₀ .len) → Reached heardBy block l (stand (t₀ .meter) buffer₀) (stand (t .meter) buffer) line (t .len) at)
 
 abbrev μ-loop : tie.MeasureT-loop
 μ-loop block line₀ settings₀ buffer₀ buf₀ t₀ at₀ line settings buffer buf t at = length block - at
 
 loop-holds : tie.Need-loop-holds Inv-loop μ-loop
-loop-holds c = (search needs, refl, refl)
+loop-holds c = (search needs, refl, refl, λ l h. begins heardBy _ l _ _ _ h)
 
 sub-feed : tie.Need-sub-feed Inv-loop μ-loop
 sub-feed c = omega arith
@@ -55,8 +59,16 @@ loop-less c =
 
 loop-again : tie.Need-loop-again Inv-loop μ-loop
 loop-again c =
+    let a = c .before .before .before .before .before .before .before .before .before .before .before .before .before .before .before .before .before .before .args in
     let l = c .before .before .before .before .before .before .before .before .before .before .before .before .before .before .loop in
-    (omega (arith, ahead (c .before .before .before .before .before .before .before .before .before)), c .before .before .before .buffer .given ∙ l .inv .1, c .before .buf .given ∙ l .inv .2)
+    let f = c .before .before .before .before .before .before .before .before .before .before .feed in
+    let s = c .before .before .before .before .stepped in (
+      omega (arith, ahead (c .before .before .before .before .before .before .before .before .before)),
+      c .before .before .before .buffer .given ∙ l .inv .1,
+      c .before .buf .given ∙ l .inv .2,
+      λ x h. steps heardBy (a .block .now) x (stand (a .s .meter) (a .buffer .now)) (stand (l .t .meter) (l .buffer)) (l .line) (l .t .len) (l .at) (l .inv .3 x h)
+          (f .result) (f .last .0) _ (s .result .len) (f .ensures .0) (f .ensures .1 .0) (s .ensures .0) (s .ensures .1),
+    )
 
 same-length : tie.Need-same-length Inv-loop μ-loop
 same-length c = c .before .loop .inv .1
@@ -65,7 +77,9 @@ same-length-2 : tie.Need-same-length-2 Inv-loop μ-loop
 same-length-2 c = c .before .loop .inv .2
 
 returns : tie.Need-returns Inv-loop μ-loop
-returns c = tt
+returns c =
+    let l = c .before .loop in
+    λ x h. ends heardBy _ x _ _ _ _ (l .at) (omega arith) (l .inv .3 x h)
 
 pub lines-spec : {M : Type 1} → statement M
 lines-spec =

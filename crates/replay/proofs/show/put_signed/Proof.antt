@@ -1,6 +1,9 @@
--- `replay::show::put_signed` is safe: a signed number of 32 bits fits 64. Assumes nothing.
+-- `replay::show::put_signed` meets its contract: a signed number of 32 bits fits 64. Assumes nothing.
+use mathlib.Core.Path.{ap}
+use Rattle.exact.proofs.Z.{widens, widened}
+use Rattle.replay.specs.Show.{named}
+use Rattle.replay.proofs.Pieces.{alike}
 use borrow.Author.Needs.{needs}
-use Rattle.exact.proofs.Z.{widens}
 use Rattle.replay.proofs.show.put_signed.Statement.{statement}
 use Rattle.replay.proofs.show.put_signed.Tie as tie
 
@@ -14,7 +17,9 @@ same-length : tie.Need-same-length
 same-length c = search needs
 
 returns : tie.Need-returns
-returns c = search needs
+returns c =
+    let s = c .before .before .before .before .before .before in
+    alike _ _ _ _ (ap (named (s .args .name .now)) (widened (s .fits .z))) (c .before .before .put-named .ensures)
 
 pub put-signed-spec : {M : Type 1} → statement M
 put-signed-spec = tie.close (tie.spec cast-put-named put-named-requires same-length returns)

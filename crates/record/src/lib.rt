@@ -10,7 +10,15 @@
 //
 // The format grows without breaking old files: a new setting comes as a further word at the end of `CFG`, where a line without it has
 // the value that leaves the meter as it was, and anything else comes as a line with a letter of its own.
-ghost use Prim.Native.Nat.{_≤_};
+ghost use mathlib.Core.Path.{_≡_};
+ghost use mathlib.Core.Bool.{false, cond};
+ghost use mathlib.Core.List.{[], _∷_};
+ghost use Prim.Native.Nat.{_≤_, _<_};
+ghost use lib.Dec.{eqb};
+ghost use lib.ListN.{length, getD};
+ghost use Rattle.text.specs.Line.{heard};
+ghost use Rattle.record.specs.Record.{words, keyOf, byteOf, placeOf, sampleSaid, keySaid, byteSaid, asNumber, settingOf, kinds, settingsOf, configurationSaid, shortSaid, shortBy, eventOf, readOf, stored, eventHeard, readHeard};
+ghost use Rattle.record.specs.Configuration.{inTurn, scaleOf, totalizerOf, alarmOf, printOf, configOf};
 use alarm::Settings;
 use config::Analog;
 use config::Config;
@@ -32,11 +40,15 @@ pub enum Event {
 }
 
 // A place: an unsigned number of 64 bits, which has at most 20 digits.
-fn place(s: &[u8]) -> Natural {
+fn place(s: &[u8]) -> Natural
+    ensures { λ r. ⌜ r ≡ placeOf (now (s .entry)) ⌝ }
+{
     text::read_natural(20, s)
 }
 
-fn sample(s: &[u8]) -> Event {
+fn sample(s: &[u8]) -> Event
+    ensures { λ r. ⌜ r ≡ sampleSaid (words (now (s .entry))) ⌝ }
+{
     let n = text::read_number(s);
     match n {
         Number::Is(v) => Event::Sample(v),
@@ -44,7 +56,9 @@ fn sample(s: &[u8]) -> Event {
     }
 }
 
-fn key_at(n: Number, p: Natural) -> Event {
+fn key_at(n: Number, p: Natural) -> Event
+    ensures { λ r. ⌜ r ≡ keyOf n p ⌝ }
+{
     let Number::Is(v) = n else {
         return Event::Bad;
     };
@@ -54,7 +68,9 @@ fn key_at(n: Number, p: Natural) -> Event {
     Event::Key(v, at as usize)
 }
 
-fn byte_at(n: Natural, p: Natural) -> Event {
+fn byte_at(n: Natural, p: Natural) -> Event
+    ensures { λ r. ⌜ r ≡ byteOf n p ⌝ }
+{
     let Natural::Is(v) = n else {
         return Event::Bad;
     };
@@ -68,7 +84,9 @@ fn byte_at(n: Natural, p: Natural) -> Event {
     }
 }
 
-fn key(s: &[u8]) -> Event {
+fn key(s: &[u8]) -> Event
+    ensures { λ r. ⌜ r ≡ keySaid (words (now (s .entry))) ⌝ }
+{
     let e = text::word_end(s, 0);
     if e < s.len() {
         key_at(text::read_number(&s[0..e]), place(&s[e + 1..]))
@@ -77,7 +95,9 @@ fn key(s: &[u8]) -> Event {
     }
 }
 
-fn byte(s: &[u8]) -> Event {
+fn byte(s: &[u8]) -> Event
+    ensures { λ r. ⌜ r ≡ byteSaid (words (now (s .entry))) ⌝ }
+{
     let e = text::word_end(s, 0);
     if e < s.len() {
         byte_at(text::read_natural(3, &s[0..e]), place(&s[e + 1..]))
@@ -87,7 +107,10 @@ fn byte(s: &[u8]) -> Event {
 }
 
 // Whether word i of a configuration is a yes/no: the last two of each alarm's six, and the last six of all.
-fn is_flag(i: usize) -> bool {
+fn is_flag(i: usize) -> bool
+    requires { ⌜ i < 73 ⌝ }
+    ensures { λ r. ⌜ r ≡ getD kinds i false ⌝ }
+{
     if i < 40 {
         return false;
     }
@@ -97,7 +120,9 @@ fn is_flag(i: usize) -> bool {
     67 <= i
 }
 
-fn as_number(f: Flag) -> Number {
+fn as_number(f: Flag) -> Number
+    ensures { λ r. ⌜ r ≡ asNumber f ⌝ }
+{
     match f {
         Flag::Is(yes) => { if yes { Number::Is(1) } else { Number::Is(0) } }
         Flag::Not => Number::Not,
@@ -105,7 +130,10 @@ fn as_number(f: Flag) -> Number {
 }
 
 // Word i of a configuration.
-fn setting(i: usize, s: &[u8]) -> Number {
+fn setting(i: usize, s: &[u8]) -> Number
+    requires { ⌜ i < 73 ⌝ }
+    ensures { λ r. ⌜ r ≡ settingOf (getD kinds i false) (now (s .entry)) ⌝ }
+{
     if is_flag(i) {
         return as_number(text::read_flag(s));
     }
@@ -113,7 +141,10 @@ fn setting(i: usize, s: &[u8]) -> Number {
 }
 
 // The words of a configuration, as many as there are places for them.
-fn configuration(s: &[u8], settings: &mut [i32; 73]) -> Event {
+fn configuration(s: &[u8], settings: &mut [i32; 73]) -> Event
+    ensures { λ r. ⌜ r ≡ configurationSaid (words (now (s .entry))) ⌝ }
+    ensures { λ _. ⌜ now (settings .exit) ≡ stored 0 (now (settings .entry)) (settingsOf kinds (words (now (s .entry)))) ⌝ }
+{
     let mut at = 0;
     let mut i = 0;
     while i < 73 {
@@ -133,8 +164,10 @@ fn configuration(s: &[u8], settings: &mut [i32; 73]) -> Event {
 }
 
 // A line that ends after so many words.
-fn ended(words: usize) -> Event {
-    if words == 73 {
+fn ended(count: usize) -> Event
+    ensures { λ r. ⌜ r ≡ cond (eqb count 73) Event.Configuration Event.Bad ⌝ }
+{
+    if count == 73 {
         Event::Configuration
     } else {
         Event::Bad
@@ -142,7 +175,9 @@ fn ended(words: usize) -> Event {
 }
 
 // A line of one letter, a space and the rest.
-fn short(k: u8, s: &[u8]) -> Event {
+fn short(k: u8, s: &[u8]) -> Event
+    ensures { λ r. ⌜ r ≡ shortSaid (k ∷ []) (words (now (s .entry))) ⌝ }
+{
     match k {
         b'S' => sample(s),
         b'K' => key(s),
@@ -152,7 +187,10 @@ fn short(k: u8, s: &[u8]) -> Event {
 }
 
 // A line, as its bytes without the LF.
-fn parse(s: &[u8], settings: &mut [i32; 73]) -> Event {
+fn parse(s: &[u8], settings: &mut [i32; 73]) -> Event
+    ensures { λ r. ⌜ r ≡ eventOf (now (s .entry)) ⌝ }
+    ensures { λ _. ⌜ now (settings .exit) ≡ stored 0 (now (settings .entry)) (readOf (now (s .entry))) ⌝ }
+{
     if s.len() < 4 {
         return brief(s);
     }
@@ -163,7 +201,9 @@ fn parse(s: &[u8], settings: &mut [i32; 73]) -> Event {
 }
 
 // A line of one letter and what belongs to it.
-fn brief(s: &[u8]) -> Event {
+fn brief(s: &[u8]) -> Event
+    ensures { λ r. ⌜ r ≡ shortBy (words (now (s .entry))) ⌝ }
+{
     if s.len() < 3 {
         return Event::Bad;
     }
@@ -174,7 +214,10 @@ fn brief(s: &[u8]) -> Event {
 }
 
 // The line of an array and a count.
-pub fn judge(line: &[u8; 1024], len: usize, settings: &mut [i32; 73]) -> Event {
+pub fn judge(line: &[u8; 1024], len: usize, settings: &mut [i32; 73]) -> Event
+    ensures { λ r. ⌜ r ≡ eventHeard (heard (now (line .entry)) len) ⌝ }
+    ensures { λ _. ⌜ now (settings .exit) ≡ stored 0 (now (settings .entry)) (readHeard (heard (now (line .entry)) len)) ⌝ }
+{
     let s: &[u8] = line;
     if s.len() < len {
         return Event::Bad;
@@ -183,7 +226,9 @@ pub fn judge(line: &[u8; 1024], len: usize, settings: &mut [i32; 73]) -> Event {
 }
 
 // The inputs of the 16 points, and their displays, one after the other in turn.
-fn inputs_of(s: &[i32; 73]) -> [i32; 16] {
+fn inputs_of(s: &[i32; 73]) -> [i32; 16]
+    ensures { λ r. ⌜ r ≡ inTurn (now (s .entry)) 5 ⌝ }
+{
     [
         s[5],
         s[7],
@@ -204,7 +249,9 @@ fn inputs_of(s: &[i32; 73]) -> [i32; 16] {
     ]
 }
 
-fn displays_of(s: &[i32; 73]) -> [i32; 16] {
+fn displays_of(s: &[i32; 73]) -> [i32; 16]
+    ensures { λ r. ⌜ r ≡ inTurn (now (s .entry)) 6 ⌝ }
+{
     [
         s[6],
         s[8],
@@ -228,6 +275,7 @@ fn displays_of(s: &[i32; 73]) -> [i32; 16] {
 // An alarm's six words from a place on: setpoint, hysteresis, on and off delay, low acting, latched.
 fn alarm_at(s: &[i32; 73], at: usize) -> Settings
     requires { ⌜ at ≤ 58 ⌝ }
+    ensures { λ r. ⌜ r ≡ alarmOf (now (s .entry)) at ⌝ }
 {
     Settings {
         hysteresis: s[at + 1],
@@ -238,7 +286,9 @@ fn alarm_at(s: &[i32; 73], at: usize) -> Settings
     }
 }
 
-fn scale_of(s: &[i32; 73]) -> Scale {
+fn scale_of(s: &[i32; 73]) -> Scale
+    ensures { λ r. ⌜ r ≡ scaleOf (now (s .entry)) ⌝ }
+{
     let inputs = inputs_of(s);
     let displays = displays_of(s);
     Scale {
@@ -249,7 +299,9 @@ fn scale_of(s: &[i32; 73]) -> Scale {
     }
 }
 
-fn totalizer_of(s: &[i32; 73]) -> Totalizer {
+fn totalizer_of(s: &[i32; 73]) -> Totalizer
+    ensures { λ r. ⌜ r ≡ totalizerOf (now (s .entry)) ⌝ }
+{
     Totalizer {
         batch: s[67] == 1,
         low_cut: s[39],
@@ -258,7 +310,9 @@ fn totalizer_of(s: &[i32; 73]) -> Totalizer {
     }
 }
 
-fn print_of(s: &[i32; 73]) -> Print {
+fn print_of(s: &[i32; 73]) -> Print
+    ensures { λ r. ⌜ r ≡ printOf (now (s .entry)) ⌝ }
+{
     Print {
         input: s[69] == 1,
         extremes: s[70] == 1,
@@ -267,9 +321,18 @@ fn print_of(s: &[i32; 73]) -> Print {
     }
 }
 
+// An array by value tells how many it holds.
+fn sized(s: [i32; 73])
+    ensures { λ _. ⌜ length s ≡ 73 ⌝ }
+{}
+
 // The configuration of its 73 words: node, places of input and total, rounding, number of points, 16 points, factor, time base, low
 // cut, four alarms, capture, analog low and high, batch, abbreviated, and what a block prints.
-pub fn config_of(s: &[i32; 73]) -> Config {
+pub fn config_of(s: &[i32; 73]) -> Config
+    ensures { λ r. ⌜ r ≡ configOf (now (s .entry)) ⌝ }
+    ensures { λ _. ⌜ length (now (s .entry)) ≡ 73 ⌝ }
+{
+    sized(*s);
     let scale = scale_of(s);
     let totalizer = totalizer_of(s);
     let first = alarm_at(s, 40);

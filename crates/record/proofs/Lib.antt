@@ -1,0 +1,7 @@
+pub mod Settings
+pub mod Order
+pub mod Words
+pub mod Said
+pub mod Turns
+pub mod Meaning
+pub mod Cases

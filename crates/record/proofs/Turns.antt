@@ -1,0 +1,133 @@
+-- One turn of the loop over the words of a configuration, over plain values: i words are read, and d is what is left of the line.
+-- Assumes nothing.
+use mathlib.Core.Path.{_≡_, refl, sym, ap, ap₂, _∙_}
+use mathlib.Core.Bool.{Bool, true, false, cond, _&&_}
+use mathlib.Core.List.{List, [], _∷_}
+use Prim.Native.Nat.{ℕ, suc, _+_, _≤_, _<_}
+use native.Mathlib.Omega.{arith}
+use native.Mathlib.Numerals.{add-one}
+use lib.Dec.{eqb}
+use lib.IntN.{ℤ}
+use lib.ListN.{length, drop, getD, set}
+use lib.Seq.{drop-cons}
+use borrow.Author.Tests.{ne-eqb}
+use Rattle.exact.proofs.Z.{and-false}
+use Rattle.text.specs.Line.{before, after, has}
+use Rattle.text.specs.Word.{wordEnd}
+use Rattle.text.specs.declared.Number.{Number}
+use Rattle.text.specs.declared.Number.the-variants as number
+use Rattle.record.specs.Record.{words, kinds, settingOf, onto, settingsOf, configurationSaid, stored}
+use Rattle.record.specs.declared.Event.{Event}
+use Rattle.record.specs.declared.Event.the-variants.{Configuration, Bad}
+use Rattle.record.proofs.Words.{words-one, words-on, words-some, before-all, behind, spaced, unspaced}
+
+-- the settings that are left to read
+abbrev pub left : ℕ → List ℕ → List ℤ
+left i d = settingsOf (drop i kinds) (words d)
+
+-- what a line says of which i words are settings, and whose other words and settings are so many
+abbrev pub saysAt : ℕ → ℕ → ℕ → Event
+saysAt i n k = cond (eqb (i + n) 73 && eqb (i + k) 73) Configuration Bad
+
+pub begins : (s : List ℕ) → configurationSaid (words s) ≡ saysAt 0 (length (words s)) (length (left 0 s))
+unfolding configurationSaid
+begins s =
+    let p : length (words s) ≡ 0 + length (words s) = omega arith in
+    let q : length (left 0 s) ≡ 0 + length (left 0 s) = omega arith in
+    ap₂ (λ (n k : ℕ). cond (eqb n 73 && eqb k 73) Configuration Bad) p q
+
+module _ (i : ℕ) (h : i < 73) where
+  kind-next : drop i kinds ≡ getD kinds i false ∷ drop (i + 1) kinds
+  unfolding kinds
+  kind-next = rw (add-one i) (drop-cons kinds i false h)
+
+  says-on : (n k : ℕ) → saysAt i (suc n) (suc k) ≡ saysAt (i + 1) n k
+  says-on n k =
+      let p : i + suc n ≡ i + 1 + n = omega arith in
+      let q : i + suc k ≡ i + 1 + k = omega arith in
+      ap₂ (λ (n k : ℕ). cond (eqb n 73 && eqb k 73) Configuration Bad) p q
+
+  pub says-none : (n : ℕ) → Bad ≡ saysAt i n 0
+  says-none n = rw (ne-eqb (i + 0) 73 (λ e. omega arith), and-false (eqb (i + n) 73))
+
+  module _ (d : List ℕ) (x : Number) (e : settingOf (getD kinds i false) (before 32 d) ≡ x) where
+    left-next : has 32 d ≡ true → left i d ≡ onto x (left (i + 1) (after 32 d))
+    unfolding settingsOf
+    left-next y = rw (kind-next, words-on d y, e)
+
+    left-last : has 32 d ≡ false → left i d ≡ onto x []
+    unfolding settingsOf
+    left-last y = rw (kind-next, words-one d y) (ap₂ onto (ap (settingOf (getD kinds i false)) (sym (before-all d y)) ∙ e) (none (drop (i + 1) kinds)))
+      where
+        none : (ks : List Bool) → settingsOf ks [] ≡ []
+        none [] = refl
+        none (k ∷ ks) = refl
+
+-- where the loop stands in the line s: i of its words are settings, in an array that was old, and the rest begins at a place
+pub record Reading (s : List ℕ) (old array : List ℤ) (at i : ℕ) : Type 0 where
+  pub says : configurationSaid (words s) ≡ saysAt i (length (words (drop at s))) (length (left i (drop at s)))
+  pub holds : stored 0 old (settingsOf kinds (words s)) ≡ stored i array (left i (drop at s))
+
+-- what the loop is to leave
+abbrev pub Left : List ℕ → List ℤ → Event → List ℤ → Type 0
+Left s old r array = (r ≡ configurationSaid (words s)) × (array ≡ stored 0 old (settingsOf kinds (words s)))
+
+pub starts : (s : List ℕ) (old : List ℤ) → Reading s old old 0 0
+starts s old = record { says = begins s; holds = refl }
+
+module _ (s : List ℕ) (old array : List ℤ) (at i : ℕ) (r : Reading s old array at i) where
+  pub all-read : i ≡ 73 → Left s old Bad array
+  unfolding kinds settingsOf stored
+  all-read e =
+      let d = drop at s in
+      let n : left i d ≡ [] = ap (λ (k : ℕ). left k d) e in
+      let more : (i + length (words d) ≡ 73 → ⊥) = λ f. omega (arith, words-some d) in (
+        sym (r .says ∙ rw (ne-eqb (i + length (words d)) 73 more)),
+        sym (r .holds ∙ ap (stored i array) n),
+      )
+
+  module _ (h : i < 73) (e : ℕ) (w : e ≡ wordEnd at s) where
+    abbrev word : Number
+    word = settingOf (getD kinds i false) (before 32 (drop at s))
+
+    none-left : word ≡ number.Not → left i (drop at s) ≡ []
+    none-left x = go (has 32 (drop at s)) refl
+      where
+        go : (t : Bool) → has 32 (drop at s) ≡ t → left i (drop at s) ≡ []
+        go true y = left-next i h (drop at s) number.Not x y
+        go false y = left-last i h (drop at s) number.Not x y
+
+    pub no-setting : word ≡ number.Not → Left s old Bad array
+    unfolding stored
+    no-setting x =
+        let n = none-left x in (
+          says-none i h (length (words (drop at s))) ∙ sym (r .says ∙ ap (λ (l : List ℤ). saysAt i (length (words (drop at s))) (length l)) n),
+          sym (r .holds ∙ ap (stored i array) n),
+        )
+
+    module _ (v : ℤ) (x : word ≡ number.Is v) where
+      pub last-setting : length s ≤ e → at ≤ length s → Left s old (cond (eqb (i + 1) 73) Configuration Bad) (set array i v)
+      unfolding stored
+      last-setting k b =
+          let y = unspaced s at e w k b in
+          let n = left-last i h (drop at s) (number.Is v) x y in
+          let o = words-one (drop at s) y in (
+            sym (r .says ∙ rw (n, o) (once (eqb (i + 1) 73))),
+            sym (r .holds ∙ ap (stored i array) n),
+          )
+        where
+          once : (t : Bool) → cond (t && t) Configuration Bad ≡ cond t Configuration Bad
+          once true = refl
+          once false = refl
+
+      pub next-setting : e < length s → Reading s old (set array i v) (e + 1) (i + 1)
+      unfolding stored
+      next-setting k =
+          let y = spaced s at e w k in
+          let n = left-next i h (drop at s) (number.Is v) x y in
+          let o = words-on (drop at s) y in
+          let b = behind s at e w in
+          record {
+            says = r .says ∙ rw (n, o, b) (says-on i h (length (words (after 32 (drop at s)))) (length (left (i + 1) (after 32 (drop at s)))));
+            holds = r .holds ∙ rw (n, b);
+          }

@@ -1,0 +1,186 @@
+-- Pieces that are put one after another, and numbers as pieces, over plain values. Assumes nothing.
+use mathlib.Core.Path.{_≡_, refl, sym, ap, _∙_}
+use mathlib.Core.Bool.{Bool, true, false, cond}
+use mathlib.Core.List.{List, [], _∷_, _++_, map}
+use Prim.Native.Nat.{ℕ, zero, suc, _+_, _-_, _^_, _≤_, _<_}
+use native.Mathlib.Nat.{pow-le-pow-right}
+use native.Mathlib.Numerals.{add-one}
+use native.Mathlib.Omega.{arith}
+use lib.Dec.{ltb, eqb}
+use lib.IntN.{ℤ, pos, natAbs, _*ℤ_}
+use lib.ListN.{length, take, drop, getD}
+use lib.Seq.{take-suc, drop-cons, drop-length}
+use lib.Signed.{ltZ}
+use borrow.Author.Tests.{lt-ltb, le-ltb, ne-eqb}
+use Rattle.io.specs.Digits.{glyph, digits, Fewest}
+use Rattle.exact.specs.Exact.{cut}
+use Rattle.exact.specs.Sign.{isNeg}
+use Rattle.exact.proofs.Z.{abs-mul}
+use Rattle.answer.specs.declared.Answer.{Answer}
+use Rattle.meter.specs.declared.Meter.{Meter}
+use Rattle.register.specs.Bytes.{ascii}
+use Rattle.text.specs.Output.{Waiting, putIn, puts}
+use Rattle.text.proofs.Waits.{puts-append}
+use Rattle.replay.specs.Show.{fewest, numeral, signed, hexByte, hex, quotientOf, kept, trimmed, bufferWords, receivedWords, meterWords, isNotStarted, answerHead, eventLine}
+
+-- ---- one piece, and what comes behind pieces
+
+pub one : (w v : Waiting) (s : List ℕ) → v ≡ putIn w s → v ≡ puts w (s ∷ [])
+unfolding puts
+one w v s e = e
+
+pub next : (w v u : Waiting) (a b : List (List ℕ)) → v ≡ puts w a → u ≡ puts v b → u ≡ puts w (a ++ b)
+next w v u a b p q = q ∙ ap (λ (x : Waiting). puts x b) p ∙ puts-append w a b
+
+-- ---- the fewest digits
+
+module _ (n r : ℕ) (h : Fewest 10 1 n r) where
+  counted : (f k : ℕ) → 1 ≤ k → k ≤ r → r ≤ k + f → fewest f k n ≡ r
+  unfolding fewest
+  counted zero k a b c = omega arith
+  counted (suc f) k a b c = go (r - k) refl (λ m. counted f (k + 1) (omega arith) m (omega arith))
+    where
+      go : (d : ℕ) → r - k ≡ d → (k + 1 ≤ r → fewest f (k + 1) n ≡ r) → cond (ltb n (10 ^ k)) k (fewest f (k + 1) n) ≡ r
+      go zero e next =
+          let z : k ≡ r = omega arith in
+          rw (z, lt-ltb n (10 ^ r) (h .1))
+      go (suc d) e next =
+          let m : 10 ^ k ≤ 10 ^ (r - 1) = pow-le-pow-right (omega arith) (omega arith) in
+          rw (le-ltb n (10 ^ k) (omega (arith, m, h .2 (omega arith)))) (next (omega arith))
+
+  few : n ≤ 18446744073709551615 → r ≤ 20
+  few m = go (r - 20) refl
+    where
+      go : (d : ℕ) → r - 20 ≡ d → r ≤ 20
+      go zero e = omega arith
+      go (suc d) e =
+          let p : 10 ^ 20 ≤ 10 ^ (r - 1) = pow-le-pow-right {n = 10} (omega arith) {i = 20} {j = r - 1} (omega arith) in
+          absurd (omega (arith, p, h .2 (omega arith)))
+
+  pub numeral-is : n ≤ 18446744073709551615 → digits 10 r n ≡ numeral n
+  unfolding numeral
+  numeral-is m = ap (λ (k : ℕ). digits 10 k n) (sym (counted 19 1 (omega arith) (h .0) (omega (arith, few m))))
+
+pub alike : (w v : Waiting) (a b : List (List ℕ)) → a ≡ b → v ≡ puts w a → v ≡ puts w b
+alike w v a b e p = p ∙ ap (puts w) e
+
+-- ---- a sign
+
+pub signed-neg : (z : ℤ) → isNeg z ≡ true → (ascii "-" ∷ numeral (natAbs z) ∷ []) ≡ signed z
+unfolding signed
+signed-neg z e = rw e
+
+pub signed-pos : (z : ℤ) → isNeg z ≡ false → (numeral (natAbs z) ∷ []) ≡ signed z
+unfolding signed
+signed-pos z e = rw e
+
+-- ---- hexadecimal
+
+pub hex-none : (s : List ℕ) → length s ≡ 0 → (ascii "-" ∷ []) ≡ hex s
+unfolding hex
+hex-none [] e = refl
+hex-none (b ∷ s) e = absurd (omega arith)
+
+pub hex-some : (s : List ℕ) → (length s ≡ 0 → ⊥) → map hexByte s ≡ hex s
+unfolding hex
+hex-some [] e = absurd (e refl)
+hex-some (b ∷ s) e = refl
+
+pub hex-turn : (w v : Waiting) (s : List ℕ) (i : ℕ) → i < length s → v ≡ puts w (hexByte (getD s i 0) ∷ [])
+    → puts w (map hexByte (drop i s)) ≡ puts v (map hexByte (drop (i + 1) s))
+unfolding puts
+hex-turn w v s i h e =
+    ap (λ (l : List ℕ). puts w (map hexByte l)) (drop-cons s i 0 h)
+    ∙ ap (λ (k : ℕ). puts (putIn w (hexByte (getD s i 0))) (map hexByte (drop k s))) (sym (add-one i))
+    ∙ ap (λ (x : Waiting). puts x (map hexByte (drop (i + 1) s))) (sym e)
+
+pub hex-out : (w : Waiting) (s : List ℕ) (i : ℕ) → i ≡ length s → puts w (map hexByte (drop i s)) ≡ w
+unfolding puts
+hex-out w s i e = ap (λ (l : List ℕ). puts w (map hexByte l)) (ap (λ (k : ℕ). drop k s) e ∙ drop-length s)
+
+-- ---- the buffer without the EE at its end
+
+trim-ee : (s : List ℕ) → trimmed (s ++ (238 ∷ [])) ≡ trimmed s
+unfolding trimmed
+trim-ee [] = refl
+trim-ee (b ∷ s) = ap (kept (eqb b 238) b) (trim-ee s)
+
+trim-other : (s : List ℕ) (x : ℕ) → (x ≡ 238 → ⊥) → trimmed (s ++ (x ∷ [])) ≡ s ++ (x ∷ [])
+unfolding trimmed
+trim-other [] x e = rw (ne-eqb x 238 e)
+trim-other (b ∷ s) x e = ap (kept (eqb b 238) b) (trim-other s x e) ∙ go (eqb b 238) s
+  where
+    go : (t : Bool) (s : List ℕ) → kept t b (s ++ (x ∷ [])) ≡ b ∷ (s ++ (x ∷ []))
+    go t [] = refl
+    go t (c ∷ s) = refl
+
+module _ (l : List ℕ) (n : ℕ) (a : 0 < n) (b : n ≤ length l) where
+  last-one : take n l ≡ take (n - 1) l ++ (getD l (n - 1) 0 ∷ [])
+  last-one =
+      let e : n ≡ suc (n - 1) = omega arith in
+      ap (λ (k : ℕ). take k l) e ∙ take-suc l (n - 1) 0 (omega arith)
+
+  pub trim-stop : (getD l (n - 1) 0 ≡ 238 → ⊥) → trimmed (take n l) ≡ take n l
+  trim-stop e = ap trimmed last-one ∙ trim-other (take (n - 1) l) (getD l (n - 1) 0) e ∙ sym last-one
+
+  pub trim-on : getD l (n - 1) 0 ≡ 238 → trimmed (take (n - 1) l) ≡ trimmed (take n l)
+  trim-on e = sym (ap trimmed last-one ∙ ap (λ (x : ℕ). trimmed (take (n - 1) l ++ (x ∷ []))) e ∙ trim-ee (take (n - 1) l))
+
+pub trim-out : (l : List ℕ) (n : ℕ) → n ≡ 0 → trimmed (take n l) ≡ []
+unfolding trimmed
+trim-out l n e = ap (λ (k : ℕ). trimmed (take k l)) e
+
+-- ---- the total
+
+pub quotient-none : (sum base : ℤ) → ltZ base (pos 1) ≡ true → pos 0 ≡ quotientOf sum base
+unfolding quotientOf
+quotient-none sum base e = rw e
+
+pub quotient-is : (sum base : ℤ) → ltZ base (pos 1) ≡ false → cut sum (natAbs (pos 20000 *ℤ base)) ≡ quotientOf sum base
+unfolding quotientOf
+quotient-is sum base e = rw (e, abs-mul (pos 20000) base)
+
+-- ---- the sixteen digits
+
+unfoldable glyphs : ℕ → ℕ → List ℕ
+glyphs i zero = []
+glyphs i (suc n) = glyph i ∷ glyphs (suc i) n
+
+glyphs-at : (n i k : ℕ) → k < n → getD (glyphs i n) k 0 ≡ glyph (i + k)
+unfolding glyphs
+glyphs-at zero i k h = absurd (omega arith)
+glyphs-at (suc n) i zero h =
+    let e : i ≡ i + 0 = omega arith in
+    ap glyph e
+glyphs-at (suc n) i (suc k) h =
+    let e : suc i + k ≡ i + suc k = omega arith in
+    glyphs-at n (suc i) k (omega arith) ∙ ap glyph e
+
+sixteen : glyphs 0 16 ≡ ascii "0123456789abcdef"
+unfolding glyphs
+sixteen = refl
+
+pub hex-digit : (d : ℕ) → d < 16 → getD (ascii "0123456789abcdef") d 0 ≡ glyph d
+hex-digit d h =
+    let e : 0 + d ≡ d = omega arith in
+    ap (λ (l : List ℕ). getD l d 0) (sym sixteen) ∙ glyphs-at 16 0 d h ∙ ap glyph e
+
+-- ---- lines
+
+pub received-long : (bytes : List ℕ) (n : ℕ) → 32 < n → ((ascii " RX=" ∷ []) ++ (ascii "- RXO=1" ∷ [])) ≡ receivedWords bytes n
+unfolding receivedWords
+received-long bytes n h = rw (lt-ltb 32 n h)
+
+pub received-held : (bytes : List ℕ) (n : ℕ) → n ≤ 32
+    → ((ascii " RX=" ∷ []) ++ (hex (take n bytes) ++ (ascii " RXO=0" ∷ []))) ≡ receivedWords bytes n
+unfolding receivedWords
+received-held bytes n h = rw (le-ltb 32 n h)
+
+pub event-off : (a : Answer) (m : Meter) (buffer : List ℕ) → isNotStarted a ≡ true → answerHead a ++ bufferWords buffer ≡ eventLine a m buffer
+unfolding eventLine
+event-off a m buffer e = ap (λ (t : Bool). cond t (answerHead a) (answerHead a ++ meterWords m) ++ bufferWords buffer) (sym e)
+
+pub event-on : (a : Answer) (m : Meter) (buffer : List ℕ) → isNotStarted a ≡ false
+    → (answerHead a ++ meterWords m) ++ bufferWords buffer ≡ eventLine a m buffer
+unfolding eventLine
+event-on a m buffer e = ap (λ (t : Bool). cond t (answerHead a) (answerHead a ++ meterWords m) ++ bufferWords buffer) (sym e)

@@ -1,0 +1,52 @@
+-- The meter over lines, over plain values. Assumes nothing.
+use mathlib.Core.Path.{_≡_, refl, sym, ap, _∙_}
+use mathlib.Core.Bool.{Bool, true, false, cond}
+use mathlib.Core.List.{List, [], _∷_, _++_}
+use Prim.Native.Nat.{ℕ, zero, suc, _+_, _<_}
+use native.Mathlib.Numerals.{add-one}
+use lib.IntN.{ℤ}
+use lib.ListN.{length, take, set, replicate}
+use lib.Seq.{take-suc-set, take-length}
+use Rattle.text.specs.Line.{Heard}
+use Rattle.meter.specs.declared.Meter.{Meter}
+use Rattle.record.specs.Record.{eventHeard, readHeard, stored}
+use Rattle.record.specs.declared.Event.{Event}
+use Rattle.record.specs.declared.Event.the-variants.{Configuration}
+use Rattle.record.proofs.Meaning.{stored-size, configured}
+use Rattle.replay.specs.Replay.{filled, sampleStep, answered, effectBy, effect}
+
+pub picked : {A : Type 0} {t : Bool} (a b : A) → t ≡ true → a ≡ cond t a b
+picked a b e = ap (λ (t : Bool). cond t a b) (sym e)
+
+pub passed : {A : Type 0} {t : Bool} (a b : A) → t ≡ false → b ≡ cond t a b
+passed a b e = ap (λ (t : Bool). cond t a b) (sym e)
+
+-- ---- a buffer that is filled byte by byte
+
+more : (x i : ℕ) → replicate i x ++ (x ∷ []) ≡ replicate (suc i) x
+more x zero = refl
+more x (suc i) = ap (λ (l : List ℕ). x ∷ l) (more x i)
+
+pub filled-on : (l : List ℕ) (i : ℕ) → i < length l → take i l ≡ replicate i 238 → take (i + 1) (set l i 238) ≡ replicate (i + 1) 238
+filled-on l i h e = rw (add-one i) (take-suc-set l i 238 h ∙ ap (λ (k : List ℕ). k ++ (238 ∷ [])) e ∙ more 238 i)
+
+pub filled-out : (l old : List ℕ) (i : ℕ) → i ≡ length l → length l ≡ length old → take i l ≡ replicate i 238 → l ≡ filled old
+unfolding filled
+filled-out l old i p q e =
+    sym (take-length l) ∙ ap (λ (n : ℕ). take n l) (sym p) ∙ e ∙ ap (λ (n : ℕ). replicate n 238) (p ∙ q)
+
+-- ---- a line
+
+pub effects : (m : Meter) (buffer : List ℕ) (h : Heard) (e : Event) → e ≡ eventHeard h → effectBy m buffer (readHeard h) e ≡ effect m buffer h
+unfolding effect
+effects m buffer h e p = ap (effectBy m buffer (readHeard h)) p
+
+-- a sample touches no buffer
+pub sampled-told : (m : Meter) (z : ℤ) (buffer : List ℕ) → buffer ≡ answered (sampleStep m z buffer) .buffer
+unfolding sampleStep
+sampled-told m z buffer = refl
+
+-- a configuration is that of the line's own settings, whatever the array held before
+pub settled : (h : Heard) (old : List ℤ) → Configuration ≡ eventHeard h → length (stored 0 old (readHeard h)) ≡ 73
+    → stored 0 old (readHeard h) ≡ readHeard h
+settled h old e n = configured h old e (sym (stored-size 0 old (readHeard h)) ∙ n)

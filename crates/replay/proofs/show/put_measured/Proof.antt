@@ -1,0 +1,45 @@
+-- `replay::show::put_measured` meets its contract: the pieces are put one after another. Assumes nothing.
+use mathlib.Core.Path.{ap}
+use mathlib.Core.List.{_++_}
+use mir.Facts.{toZ-ofZ}
+use Rattle.register.specs.Bytes.{ascii}
+use Rattle.replay.specs.Show.{readingWord, totalWords, extremeWords, measuredWords}
+use Rattle.replay.proofs.Pieces.{next, alike}
+use borrow.Author.Needs.{needs}
+use Rattle.replay.proofs.show.put_measured.Statement.{statement}
+use Rattle.replay.proofs.show.put_measured.Tie as tie
+
+slice-aggregate-put-reading : tie.Need-slice-aggregate-put-reading
+slice-aggregate-put-reading c = search needs
+
+put-reading-requires : tie.Need-put-reading-requires
+put-reading-requires c κs = search needs
+
+put-total-requires : tie.Need-put-total-requires
+put-total-requires c κs = search needs
+
+put-extremes-requires : tie.Need-put-extremes-requires
+put-extremes-requires c κs = search needs
+
+same-length : tie.Need-same-length
+same-length c = search needs
+
+returns : tie.Need-returns
+unfolding measuredWords
+returns c =
+    let s = c .before .before .before .before .before .before .before .before .before .before .before .before .before .before .before .before .before in
+    let i = s .args .i in
+    (next _ _ _ ((readingWord (ascii " R=") (i .reading)) ++ (totalWords (i .total) (s .args .time-base))) (extremeWords (i .max) (i .min)) (next _ _ _ (readingWord (ascii " R=") (i .reading)) (totalWords (i .total) (s .args .time-base)) (c .before .before .before .before .before .before .before .before .before .before .put-reading .ensures)
+    (alike _ _ _ _ (ap (totalWords (i .total)) (toZ-ofZ (s .fits .time-base))) (c .before .before .before .before .before .before .put-total .ensures)))
+    (c .before .before .put-extremes .ensures))
+
+pub put-measured-spec : {M : Type 1} → statement M
+put-measured-spec =
+    tie.close
+    (tie.spec
+    slice-aggregate-put-reading
+    put-reading-requires
+    put-total-requires
+    put-extremes-requires
+    same-length
+    returns)

@@ -1,0 +1,82 @@
+-- What a line does to the meter and its buffer, and what is shown of it.
+use Prim.Native.Nat.{ℕ}
+use mathlib.Core.List.{List}
+use lib.IntN.{ℤ}
+use lib.ListN.{length, replicate}
+use Rattle.text.specs.Line.{Heard}
+use Rattle.config.specs.declared.Config.{Config}
+use Rattle.meter.specs.Meter.{Step, poweredUp, sampled, keyed, received}
+use Rattle.meter.specs.declared.Meter.{Meter}
+use Rattle.meter.specs.declared.Outcome.{Outcome}
+use Rattle.record.specs.Record.{eventHeard, readHeard}
+use Rattle.record.specs.Configuration.{configOf}
+use Rattle.record.specs.declared.Event.{Event}
+use Rattle.record.specs.declared.Event.the-variants.{Configuration, Sample, Key, Byte, Bad}
+use Rattle.replay.specs.declared.Said.the-variants.{PoweredUp, Answered, Unknown}
+use Rattle.replay.specs.declared.Told.{Told}
+
+-- ---- events
+
+-- EE (hex) everywhere
+unfoldable pub filled : List ℕ → List ℕ
+filled buffer = replicate (length buffer) 0xEE
+
+unfoldable pub powerStep : Config → List ℕ → Step
+powerStep c buffer = record { outcome = poweredUp c; buffer = filled buffer }
+
+unfoldable pub sampleStep : Meter → ℤ → List ℕ → Step
+sampleStep m n buffer = record { outcome = sampled m n; buffer = buffer }
+
+unfoldable pub keyStep : Meter → ℤ → ℕ → List ℕ → Step
+keyStep m n place buffer = keyed m n buffer place
+
+unfoldable pub byteStep : Meter → ℕ → ℕ → List ℕ → Step
+byteStep m b place buffer = received m b buffer place
+
+-- ---- a line
+
+-- what is shown of it, with the meter after it, and the buffer after it
+pub record Effect : Type 0 where
+  pub told : Told
+  pub buffer : List ℕ
+
+-- a new meter: its answer alone is shown
+abbrev pub asPowered : Outcome → Told
+asPowered o = record { meter = o .meter; said = PoweredUp (o .answer) }
+
+-- an event of the meter: its answer and the whole state
+abbrev pub asTold : Outcome → Told
+asTold o = record { meter = o .meter; said = Answered (o .answer) }
+
+abbrev pub powered : Step → Effect
+powered t = record { told = asPowered (t .outcome); buffer = t .buffer }
+
+abbrev pub answered : Step → Effect
+answered t = record { told = asTold (t .outcome); buffer = t .buffer }
+
+-- no line of a history: `?`, and no event at all
+abbrev pub unknown : Meter → List ℕ → Effect
+unknown m buffer = record { told = record { meter = m; said = Unknown }; buffer = buffer }
+
+abbrev pub effectBy : Meter → List ℕ → List ℤ → Event → Effect
+effectBy m buffer read Configuration = powered (powerStep (configOf read) buffer)
+effectBy m buffer read (Sample n) = answered (sampleStep m n buffer)
+effectBy m buffer read (Key n place) = answered (keyStep m n place buffer)
+effectBy m buffer read (Byte b place) = answered (byteStep m b place buffer)
+effectBy m buffer read Bad = unknown m buffer
+
+unfoldable pub effect : Meter → List ℕ → Heard → Effect
+effect m buffer h = effectBy m buffer (readHeard h) (eventHeard h)
+
+-- ---- the stream
+
+-- what goes on from line to line
+pub record Stand : Type 0 where
+  pub meter : Meter
+  pub buffer : List ℕ
+
+abbrev pub stand : Meter → List ℕ → Stand
+stand m buffer = record { meter = m; buffer = buffer }
+
+unfoldable pub heardBy : Stand → Heard → Stand
+heardBy s h = stand (effect (s .meter) (s .buffer) h .told .meter) (effect (s .meter) (s .buffer) h .buffer)
