@@ -1,16 +1,14 @@
 -- Lines and what they say, with how many settings are read of each, in one table with one claim; and a whole configuration.
 -- Assumes nothing.
 use mathlib.Core.Path.{_≡_, refl}
-use mathlib.Core.Bool.{false}
 use mathlib.Core.List.{List, [], _∷_, _++_, map}
 use Prim.Native.Nat.{ℕ}
 use lib.IntN.{pos}
-use lib.ListN.{length, replicate}
+use lib.ListN.{length}
 use Rattle.exact.specs.Sign.{minus}
 use Rattle.register.specs.Bytes.{ascii}
 use Rattle.text.specs.Number.{digits, value, naturalOf, signedOf, numberOf, flagOf}
-use Rattle.alarm.specs.declared.Settings.{Settings}
-use Rattle.config.specs.declared.Config.{Config}
+use Rattle.config.specs.Bench.{benchMeter}
 use Rattle.record.specs.Record.{words, same, oneWord, twoWords, kinds, settingsOf, configurationSaid, shortSaid, eventOf, readOf}
 use Rattle.record.specs.Configuration.{configOf}
 use Rattle.record.specs.declared.Event.{Event}
@@ -88,29 +86,7 @@ pub cases : map (λ (r : Row). row (r .line) (eventOf (r .line)) (length (readOf
 unfolding eventOf readOf words same oneWord twoWords kinds settingsOf configurationSaid shortSaid numberOf signedOf naturalOf digits value flagOf
 cases = refl
 
-abbrev settings : Settings
-settings = record { hysteresis = pos 1; «on_delay» = pos 0; «off_delay» = pos 0; «low_acting» = false; latched = false }
-
-abbrev benchConfig : Config
-benchConfig =
-    record {
-      node = pos 5;
-      places = record { input = pos 1; total = pos 0 };
-      scale = record {
-        step = pos 1;
-        count = pos 2;
-        inputs = pos 0 ∷ pos 1000 ∷ replicate 14 (pos 0);
-        displays = pos 0 ∷ pos 2000 ∷ replicate 14 (pos 0);
-      };
-      totalizer = record { batch = false; «low_cut» = minus 19999; factor = pos 1000; «time_base» = pos 60 };
-      setpoints = pos 100 ∷ pos 200 ∷ pos 300 ∷ pos 400 ∷ [];
-      alarms = replicate 4 settings;
-      capture = pos 0;
-      analog = record { low = pos 0; high = pos 10000 };
-      abbreviated = false;
-      print = record { input = false; extremes = false; total = false; setpoints = false };
-    }
-
-pub bench-meter : configOf (readOf benchLine) ≡ benchConfig
+-- the line of the bench meter makes it
+pub bench-meter : configOf (readOf benchLine) ≡ benchMeter
 unfolding configOf readOf words same kinds settingsOf numberOf signedOf naturalOf digits value flagOf
 bench-meter = refl
