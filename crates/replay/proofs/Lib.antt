@@ -1,3 +1,4 @@
 pub mod Signs
 pub mod Stream
 pub mod Pieces
+pub mod Cases

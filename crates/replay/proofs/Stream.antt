@@ -1,5 +1,5 @@
 -- The meter over lines, over plain values. Assumes nothing.
-use mathlib.Core.Path.{_≡_, refl, sym, ap, _∙_}
+use mathlib.Core.Path.{_≡_, refl, sym, ap, ap₂, _∙_}
 use mathlib.Core.Bool.{Bool, true, false, cond}
 use mathlib.Core.List.{List, [], _∷_, _++_}
 use Prim.Native.Nat.{ℕ, zero, suc, _+_, _<_}
@@ -8,12 +8,14 @@ use lib.IntN.{ℤ}
 use lib.ListN.{length, take, set, replicate}
 use lib.Seq.{take-suc-set, take-length}
 use Rattle.text.specs.Line.{Heard}
+use Rattle.text.specs.Output.{Waiting, puts}
 use Rattle.meter.specs.declared.Meter.{Meter}
 use Rattle.record.specs.Record.{eventHeard, readHeard, stored}
 use Rattle.record.specs.declared.Event.{Event}
 use Rattle.record.specs.declared.Event.the-variants.{Configuration}
 use Rattle.record.proofs.Meaning.{stored-size, configured}
-use Rattle.replay.specs.Replay.{filled, sampleStep, answered, effectBy, effect}
+use Rattle.replay.specs.Replay.{filled, sampleStep, answered, effectBy, effect, shownOf, stand, standAfter, heardBy}
+use Rattle.replay.specs.declared.Told.{Told}
 
 pub picked : {A : Type 0} {t : Bool} (a b : A) → t ≡ true → a ≡ cond t a b
 picked a b e = ap (λ (t : Bool). cond t a b) (sym e)
@@ -50,3 +52,11 @@ sampled-told m z buffer = refl
 pub settled : (h : Heard) (old : List ℤ) → Configuration ≡ eventHeard h → length (stored 0 old (readHeard h)) ≡ 73
     → stored 0 old (readHeard h) ≡ readHeard h
 settled h old e n = configured h old e (sym (stored-size 0 old (readHeard h)) ∙ n)
+
+-- what is printed leaves the meter and the buffer as the event left them
+pub told-stand : (m : Meter) (buffer : List ℕ) (out : Waiting) (h : Heard) (t : Told) (l : List ℕ) (v : Waiting)
+    → t ≡ effect m buffer h .told → l ≡ effect m buffer h .buffer → v ≡ puts out (shownOf (t .said) (t .meter) l)
+    → stand (t .meter) l v ≡ heardBy (stand m buffer out) h
+unfolding heardBy
+told-stand m buffer out h t l v p q w =
+    ap (stand (t .meter) l) w ∙ ap₂ (λ (t : Told) (l : List ℕ). standAfter out (record { told = t; buffer = l })) p q

@@ -1,9 +1,11 @@
 -- What a line does to the meter and its buffer, and what is shown of it.
 use Prim.Native.Nat.{ℕ}
-use mathlib.Core.List.{List}
+use mathlib.Core.List.{List, [], _∷_, _++_}
 use lib.IntN.{ℤ}
 use lib.ListN.{length, replicate}
 use Rattle.text.specs.Line.{Heard}
+use Rattle.text.specs.Output.{Waiting, puts}
+use Rattle.register.specs.Bytes.{ascii}
 use Rattle.config.specs.declared.Config.{Config}
 use Rattle.meter.specs.Meter.{Step, poweredUp, sampled, keyed, received}
 use Rattle.meter.specs.declared.Meter.{Meter}
@@ -12,8 +14,10 @@ use Rattle.record.specs.Record.{eventHeard, readHeard}
 use Rattle.record.specs.Configuration.{configOf}
 use Rattle.record.specs.declared.Event.{Event}
 use Rattle.record.specs.declared.Event.the-variants.{Configuration, Sample, Key, Byte, Bad}
+use Rattle.replay.specs.declared.Said.{Said}
 use Rattle.replay.specs.declared.Said.the-variants.{PoweredUp, Answered, Unknown}
 use Rattle.replay.specs.declared.Told.{Told}
+use Rattle.replay.specs.Show.{powerLine, eventLine}
 
 -- ---- events
 
@@ -68,15 +72,28 @@ effectBy m buffer read Bad = unknown m buffer
 unfoldable pub effect : Meter → List ℕ → Heard → Effect
 effect m buffer h = effectBy m buffer (readHeard h) (eventHeard h)
 
+-- what is printed of it, piece by piece
+unfoldable pub shownOf : Said → Meter → List ℕ → List (List ℕ)
+shownOf (PoweredUp a) m buffer = powerLine a
+shownOf (Answered a) m buffer = eventLine a m buffer
+shownOf Unknown m buffer = (ascii "?" ++ (10 ∷ [])) ∷ []
+
+abbrev pub printed : Effect → List (List ℕ)
+printed x = shownOf (x .told .said) (x .told .meter) (x .buffer)
+
 -- ---- the stream
 
--- what goes on from line to line
+-- what goes on from line to line: the meter, its buffer, and what waits to be written
 pub record Stand : Type 0 where
   pub meter : Meter
   pub buffer : List ℕ
+  pub out : Waiting
 
-abbrev pub stand : Meter → List ℕ → Stand
-stand m buffer = record { meter = m; buffer = buffer }
+abbrev pub stand : Meter → List ℕ → Waiting → Stand
+stand m buffer out = record { meter = m; buffer = buffer; out = out }
+
+abbrev pub standAfter : Waiting → Effect → Stand
+standAfter out x = stand (x .told .meter) (x .buffer) (puts out (printed x))
 
 unfoldable pub heardBy : Stand → Heard → Stand
-heardBy s h = stand (effect (s .meter) (s .buffer) h .told .meter) (effect (s .meter) (s .buffer) h .buffer)
+heardBy s h = standAfter (s .out) (effect (s .meter) (s .buffer) h)

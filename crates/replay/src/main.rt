@@ -12,8 +12,9 @@ ghost use mathlib.Core.List.{List};
 ghost use lib.Dec.{eqb};
 ghost use lib.ListN.{length};
 ghost use Rattle.text.specs.Line.{heard, Stands, Ran};
+ghost use Rattle.text.specs.Output.{waiting, puts};
 ghost use Rattle.record.specs.Configuration.{configOf};
-ghost use Rattle.replay.specs.Replay.{filled, powerStep, sampleStep, keyStep, byteStep, asPowered, asTold, effect, stand, heardBy};
+ghost use Rattle.replay.specs.Replay.{filled, powerStep, sampleStep, keyStep, byteStep, asPowered, asTold, effect, shownOf, stand, heardBy};
 use answer::Answer;
 use libc::STDERR_FILENO;
 use libc::STDIN_FILENO;
@@ -140,7 +141,9 @@ fn event(
 }
 
 // What is shown of a line.
-fn put_said(buf: &mut [u8], o: Out, said: Said, m: Meter, buffer: &[u8]) -> Out {
+fn put_said(buf: &mut [u8], o: Out, said: Said, m: Meter, buffer: &[u8]) -> Out
+    ensures { λ r. ⌜ waiting (r .at) (now (buf .exit)) ≡ puts (waiting (o .at) (now (buf .entry))) (shownOf said m (now (buffer .entry))) ⌝ }
+{
     match said {
         Said::PoweredUp(a) => show::put_power_up(buf, o, a),
         Said::Answered(a) => show::put_event(buf, o, a, m, buffer),
@@ -160,7 +163,7 @@ fn answered(
     s: State,
 ) -> State
     ensures { λ r. ⌜ r .len ≡ 0 ⌝ }
-    ensures { λ r. ⌜ stand (r .meter) (now (buffer .exit)) ≡ heardBy (stand (s .meter) (now (buffer .entry))) (heard (now (line .entry)) len) ⌝ }
+    ensures { λ r. ⌜ stand (r .meter) (now (buffer .exit)) (waiting (r .out .at) (now (buf .exit))) ≡ heardBy (stand (s .meter) (now (buffer .entry)) (waiting (s .out .at) (now (buf .entry)))) (heard (now (line .entry)) len) ⌝ }
 {
     let t = event(s.meter, line, len, settings, &mut *buffer);
     let said = t.said;
@@ -179,7 +182,7 @@ fn stepped(
     f: Step,
 ) -> State
     ensures { λ r. ⌜ r .len ≡ cond (f .ended) 0 (f .len) ⌝ }
-    ensures { λ r. ⌜ stand (r .meter) (now (buffer .exit)) ≡ cond (f .ended) (heardBy (stand (s .meter) (now (buffer .entry))) (heard (now (line .entry)) (f .len))) (stand (s .meter) (now (buffer .entry))) ⌝ }
+    ensures { λ r. ⌜ stand (r .meter) (now (buffer .exit)) (waiting (r .out .at) (now (buf .exit))) ≡ cond (f .ended) (heardBy (stand (s .meter) (now (buffer .entry)) (waiting (s .out .at) (now (buf .entry)))) (heard (now (line .entry)) (f .len))) (stand (s .meter) (now (buffer .entry)) (waiting (s .out .at) (now (buf .entry)))) ⌝ }
 {
     if f.ended {
         return answered(line, f.len, settings, buffer, buf, s);
@@ -199,7 +202,7 @@ fn lines(
     s: State,
 ) -> State
     ensures { λ r. ⌜ ((l : List ℕ) → Stands l (now (line .entry)) (s .len)
-        → Ran heardBy (now (block .entry)) l (stand (s .meter) (now (buffer .entry))) (stand (r .meter) (now (buffer .exit))) (now (line .exit)) (r .len)) ⌝ }
+        → Ran heardBy (now (block .entry)) l (stand (s .meter) (now (buffer .entry)) (waiting (s .out .at) (now (buf .entry)))) (stand (r .meter) (now (buffer .exit)) (waiting (r .out .at) (now (buf .exit)))) (now (line .exit)) (r .len)) ⌝ }
 {
     let mut t = s;
     let mut at = 0;
@@ -251,7 +254,7 @@ fn end(
     buf: &mut [u8],
     s: State,
 ) -> State
-    ensures { λ r. ⌜ stand (r .meter) (now (buffer .exit)) ≡ cond (eqb (s .len) 0) (stand (s .meter) (now (buffer .entry))) (heardBy (stand (s .meter) (now (buffer .entry))) (heard (now (line .entry)) (s .len))) ⌝ }
+    ensures { λ r. ⌜ stand (r .meter) (now (buffer .exit)) (waiting (r .out .at) (now (buf .exit))) ≡ cond (eqb (s .len) 0) (stand (s .meter) (now (buffer .entry)) (waiting (s .out .at) (now (buf .entry)))) (heardBy (stand (s .meter) (now (buffer .entry)) (waiting (s .out .at) (now (buf .entry)))) (heard (now (line .entry)) (s .len))) ⌝ }
 {
     if s.len == 0 {
         return s;

@@ -3,6 +3,7 @@ use borrow.Author.Needs.{needs}
 use mathlib.Core.Path.{_∙_}
 use borrow.Author.Tests.{eq-eqb, ne-eqb}
 use Rattle.text.specs.Line.{heard}
+use Rattle.text.specs.Output.{waiting}
 use Rattle.replay.specs.Replay.{stand, heardBy}
 use Rattle.replay.proofs.Stream.{picked, passed}
 use Rattle.replay.proofs.end.Statement.{statement}
@@ -11,7 +12,7 @@ use Rattle.replay.proofs.end.Tie as tie
 returns : tie.Need-returns
 returns c =
     let a = c .before .before .before .before .args in
-    let s = stand (a .s .meter) (a .buffer .now) in
+    let s = stand (a .s .meter) (a .buffer .now) (waiting (a .s .out .at) (a .buf .now)) in
     picked s (heardBy s (heard (a .line .now) (a .s .len))) (eq-eqb (a .s .len) 0 (c .if1 .taken))
 
 answered-requires : tie.Need-answered-requires
@@ -26,7 +27,7 @@ same-length-2 c = search needs
 returns-2 : tie.Need-returns-2
 returns-2 c =
     let a = c .before .before .before .before .before .before .before .before .before .before .before .before .args in
-    let s = stand (a .s .meter) (a .buffer .now) in
+    let s = stand (a .s .meter) (a .buffer .now) (waiting (a .s .out .at) (a .buf .now)) in
     c .before .before .before .before .answered .ensures .1
     ∙ passed s (heardBy s (heard (a .line .now) (a .s .len))) (ne-eqb (a .s .len) 0 (c .before .before .before .before .before .before .before .before .if1 .left))
 

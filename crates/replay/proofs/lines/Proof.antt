@@ -7,6 +7,7 @@ use Prim.Native.Nat.{ℕ, _≤_, _-_}
 use mathlib.Core.List.{List}
 use lib.ListN.{length}
 use Rattle.text.specs.Line.{Used, Stands}
+use Rattle.text.specs.Output.{waiting}
 use Rattle.text.proofs.Laws.{length-rest}
 use Rattle.text.proofs.Streams.{Reached, begins, steps, ends}
 use Rattle.replay.specs.Replay.{stand, heardBy}
@@ -16,7 +17,7 @@ use Rattle.replay.proofs.lines.Tie as tie
 abbrev Inv-loop : tie.InvT-loop
 Inv-loop block line₀ settings₀ buffer₀ buf₀ t₀ at₀ line settings buffer buf t at =
     (at ≤ length block) × (length buffer ≡ length buffer₀) × (length buf ≡ length buf₀)
-    × ((l : List ℕ) → Stands l line₀ (t₀ .len) → Reached heardBy block l (stand (t₀ .meter) buffer₀) (stand (t .meter) buffer) line (t .len) at)
+    × ((l : List ℕ) → Stands l line₀ (t₀ .len) → Reached heardBy block l (stand (t₀ .meter) buffer₀ (waiting (t₀ .out .at) buf₀)) (stand (t .meter) buffer (waiting (t .out .at) buf)) line (t .len) at)
 
 abbrev μ-loop : tie.MeasureT-loop
 μ-loop block line₀ settings₀ buffer₀ buf₀ t₀ at₀ line settings buffer buf t at = length block - at
@@ -66,7 +67,7 @@ loop-again c =
       omega (arith, ahead (c .before .before .before .before .before .before .before .before .before)),
       c .before .before .before .buffer .given ∙ l .inv .1,
       c .before .buf .given ∙ l .inv .2,
-      λ x h. steps heardBy (a .block .now) x (stand (a .s .meter) (a .buffer .now)) (stand (l .t .meter) (l .buffer)) (l .line) (l .t .len) (l .at) (l .inv .3 x h)
+      λ x h. steps heardBy (a .block .now) x (stand (a .s .meter) (a .buffer .now) (waiting (a .s .out .at) (a .buf .now))) (stand (l .t .meter) (l .buffer) (waiting (l .t .out .at) (l .buf))) (l .line) (l .t .len) (l .at) (l .inv .3 x h)
           (f .result) (f .last .0) _ (s .result .len) (f .ensures .0) (f .ensures .1 .0) (s .ensures .0) (s .ensures .1),
     )
 
