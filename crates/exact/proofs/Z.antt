@@ -5,7 +5,7 @@ use Prim.Native.Nat.{ℕ, zero, suc, _+_, _*_, _-_, _/_, _^_, _≤_, _<_, zero-l
 use native.Mathlib.Nat.{mul-le-mul, le-of-lt, div-le-self, zero-div}
 use native.Mathlib.Omega.{arith}
 use borrow.Author.Tests.{lt-ltb, le-ltb, le-leb, lt-leb, ltb-true, ltb-false, leb-true, leb-false, eq-eqb, ne-eqb, eqb-true, eqb-false}
-use lib.IntN.{ℤ, pos, negsuc, negℤ, natAbs, subℕ, _+ℤ_, _-ℤ_, _*ℤ_, +ℤ-idl, +ℤ-assoc, +ℤ-comm, zero-*ℤ, sucℤ-*ℤ, *ℤ-zero, negℤ-negℤ, negℤ-+ℤ, -ℤ-+ℤ-cancel}
+use lib.IntN.{ℤ, pos, negsuc, negℤ, natAbs, subℕ, sucℤ, predℤ, _+ℤ_, _-ℤ_, _*ℤ_, +ℤ-idl, +ℤ-assoc, +ℤ-comm, zero-*ℤ, sucℤ-*ℤ, *ℤ-zero, negℤ-negℤ, negℤ-+ℤ, -ℤ-+ℤ-cancel, +ℤ-one, -ℤ-one}
 use lib.Dec.{T, ltb, leb, eqb, leb·suc-suc}
 use lib.Signed.{mag, ltZ, leZ, nonNeg, quotZ, natAbs-le, ltZ-yes, leZ-yes, <ℤ-≤ℤ-trans, clashℤ}
 use mir.Syntax.{Width, w32, w64}
@@ -136,6 +136,11 @@ turned-true false e = refl
 pub turned-false : (t : Bool) → not t ≡ false → t ≡ true
 turned-false true e = refl
 turned-false false e = never (sym e)
+
+-- what holds of both holds of the one that a test chooses
+pub either : {A : Type 0} (P : A → Type 0) (t : Bool) {x y : A} → P x → P y → P (cond t x y)
+either P true p q = p
+either P false p q = q
 
 -- −(lo + 1) ≤ z ≤ hi
 pub between-is : (z : ℤ) (hi lo : ℕ) → lo < hi → (leZ (negsuc lo) z && leZ z (pos hi)) ≡ true → natAbs z ≤ hi
@@ -343,6 +348,30 @@ lt-add (pos a) n = lt-ltb a (a + suc n) (omega arith)
 lt-add (negsuc a) n =
     cond-ind (ltb (suc n) (suc a)) (negsuc (suc a - suc (suc n))) (pos (suc n - suc a)) (λ z. ltZ (negsuc a) z ≡ true)
     (λ t. lt-ltb (suc a - suc (suc n)) a (omega (arith, ltb-true))) (λ t. refl)
+
+-- at most b is below b + 1
+pub le-next : (a b : ℤ) → leZ a b ≡ ltZ a (b +ℤ pos 1)
+le-next a b = go a b ∙ ap (ltZ a) (sym (+ℤ-one b))
+  where
+    go : (a b : ℤ) → leZ a b ≡ ltZ a (sucℤ b)
+    go (pos a) (pos b) = sym (leb·suc-suc a b)
+    go (pos a) (negsuc zero) = sym (le-ltb a 0 zero-le)
+    go (pos a) (negsuc (suc b)) = refl
+    go (negsuc a) (pos b) = refl
+    go (negsuc a) (negsuc zero) = le-leb 0 a zero-le
+    go (negsuc a) (negsuc (suc b)) = refl
+
+-- at least a is above a − 1
+pub le-before : (a b : ℤ) → leZ a b ≡ ltZ (a -ℤ pos 1) b
+le-before a b = go a b ∙ ap (λ (z : ℤ). ltZ z b) (sym (-ℤ-one a))
+  where
+    go : (a b : ℤ) → leZ a b ≡ ltZ (predℤ a) b
+    go (pos zero) (pos b) = le-leb 0 b zero-le
+    go (pos (suc a)) (pos b) = refl
+    go (pos zero) (negsuc b) = sym (le-ltb b 0 zero-le)
+    go (pos (suc a)) (negsuc b) = refl
+    go (negsuc a) (pos b) = refl
+    go (negsuc a) (negsuc b) = sym (leb·suc-suc b a)
 
 -- taking one away is the same seen from the other end
 pub sub-le : (z : ℤ) (n : ℕ) → leZ (z -ℤ pos n) z ≡ true

@@ -4,6 +4,7 @@ use mathlib.Core.Bool.{Bool, true, false}
 use Prim.Native.Nat.{ℕ, _+_, _≤_, _<_}
 use lib.IntN.{ℤ, negℤ}
 use Rattle.exact.proofs.Z.{never, lt-neg}
+use Rattle.reading.specs.Reading.{inDisplay, displayable}
 use Rattle.reading.specs.declared.Reading.{Reading}
 use Rattle.reading.specs.declared.Reading.the-variants.{Nothing, Under, Number, Over}
 use Rattle.run.specs.Run.{samples, counted}
@@ -94,6 +95,36 @@ reset-others Nothing h = refl
 reset-others Under h = refl
 reset-others (Number v) h = never (sym h)
 reset-others Over h = refl
+
+-- ---- what is kept can be displayed, where the readings can
+
+-- what a reset takes
+pub reset-shown : (r : Reading) → displayable r ≡ true → displayable (shown (reset r)) ≡ true
+unfolding displayable shown reset
+reset-shown Nothing e = refl
+reset-shown Under e = refl
+reset-shown (Number v) e = e
+reset-shown Over e = refl
+
+moved-shown : (k : Kept) (run : ℕ) (v : ℤ) (u : Run) → inDisplay v ≡ true → displayable (shown (extreme k 0)) ≡ true → displayable (shown (moved (extreme k run) v u)) ≡ true
+unfolding displayable shown moved
+moved-shown k run v Broken e h = h
+moved-shown k run v (Going n) e h = h
+moved-shown k run v Complete e h = e
+
+module _ (side : Side) (capture : ℤ) where
+  compared-shown : (k : Kept) (run : ℕ) (v : ℤ) → inDisplay v ≡ true → displayable (shown (extreme k run)) ≡ true → displayable (shown (compared side capture (extreme k run) v)) ≡ true
+  unfolding displayable shown compared
+  compared-shown Empty run v e h = e
+  compared-shown (Holds z) run v e h = moved-shown (Holds z) run v (counted run (beyond side v z) (samples capture)) e h
+
+  -- what a sample leaves
+  pub sample-shown : (x : Extreme) (r : Reading) → displayable r ≡ true → displayable (shown x) ≡ true → displayable (shown (sampled side capture x r)) ≡ true
+  unfolding displayable shown sampled
+  sample-shown x Nothing e h = h
+  sample-shown x Under e h = h
+  sample-shown x (Number v) e h = compared-shown (x .kept) (x .run) v e h
+  sample-shown x Over e h = h
 
 -- ---- max and min are one thing seen from two sides
 

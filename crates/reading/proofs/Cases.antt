@@ -4,7 +4,7 @@ use mathlib.Core.List.{List, [], _∷_, map}
 use lib.IntN.{ℤ, pos}
 use Rattle.exact.specs.Sign.{minus}
 use Rattle.exact.specs.Exact.{halfUp, nearest, toStep}
-use Rattle.reading.specs.Reading.{firstFrom, segment, line, judged, displayed, readingOf}
+use Rattle.reading.specs.Reading.{firstFrom, segment, onLine, judged, displayed, readingOf}
 use Rattle.reading.specs.declared.Reading.{Reading}
 use Rattle.reading.specs.declared.Reading.the-variants.{Under, Number, Over}
 
@@ -51,5 +51,5 @@ abbrev read : Case → Reading
 read c = readingOf (c .inputs) (c .displays) 3 (c .step) (c .input)
 
 pub cases-hold : map read cases ≡ map (λ (c : Case). c .reads) cases
-unfolding readingOf displayed judged line segment firstFrom toStep nearest halfUp
+unfolding readingOf displayed judged onLine segment firstFrom toStep nearest halfUp
 cases-hold = refl

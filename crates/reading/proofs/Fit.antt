@@ -10,7 +10,7 @@ use mir.Val.{SFits}
 use Rattle.exact.specs.Exact.{Fraction}
 use Rattle.exact.proofs.Z.{abs-fits, abs-sub-le, abs-add-le, abs-mul-le, between-is, lt-diff}
 use Rattle.exact.proofs.Meaning.{nearest-le}
-use Rattle.reading.specs.Reading.{inInput, inDisplay, line, Points}
+use Rattle.reading.specs.Reading.{inInput, inDisplay, onLine, Points}
 
 pub input-small : (z : ℤ) → inInput z ≡ true → natAbs z ≤ 99999
 input-small z e = between-is z 99999 99998 (lit< tt) e
@@ -56,8 +56,8 @@ fit x0 y0 x1 y1 x p =
     }
 
 -- the line's whole number is small enough to be rounded to a step
-pub line-small : (x0 y0 x1 y1 x : ℤ) → Points x0 y0 x1 y1 x → natAbs (line x0 y0 x1 y1 x) ≤ 10 ^ 18
-unfolding line
+pub line-small : (x0 y0 x1 y1 x : ℤ) → Points x0 y0 x1 y1 x → natAbs (onLine x0 y0 x1 y1 x) ≤ 10 ^ 18
+unfolding onLine
 line-small x0 y0 x1 y1 x p =
     let f = fit x0 y0 x1 y1 x p in
     omega (arith, nearest-le (y0 *ℤ (x1 -ℤ x0) +ℤ (x -ℤ x0) *ℤ (y1 -ℤ y0)) (natAbs (x1 -ℤ x0)), f .small, f .narrow)

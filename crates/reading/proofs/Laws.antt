@@ -10,9 +10,9 @@ use lib.IntN.{ℤ, pos, natAbs, _+ℤ_, _-ℤ_, _*ℤ_, +ℤ-invr, +ℤ-idr, +�
 use lib.Signed.{ltZ}
 use Rattle.exact.specs.Sign.{minus}
 use Rattle.exact.specs.Exact.{nearest, toStep}
-use Rattle.exact.proofs.Z.{never, within-is, within-not, le-not-lt, not-le, le-refl, lt-le, lt-trans, lt-diff, is-pos, mul-add}
+use Rattle.exact.proofs.Z.{never, either, within-is, within-not, le-not-lt, not-le, le-refl, lt-le, lt-trans, lt-diff, is-pos, mul-add}
 use Rattle.exact.proofs.Meaning.{nearest-whole, step-one}
-use Rattle.reading.specs.Reading.{inDisplay, point, segment, line, lineOf, judged, displayed, readingOf, displayable, Accepted}
+use Rattle.reading.specs.Reading.{inDisplay, point, segment, onLine, onSegment, judged, displayed, readingOf, displayable, Scalable}
 use Rattle.reading.specs.Meaning.{IsSegment}
 use Rattle.reading.proofs.Search.{segment-le, segment-before, segment-at}
 use Rattle.reading.specs.declared.Reading.{Reading}
@@ -30,17 +30,13 @@ pub judged-displayable : (v : ℤ) → displayable (judged v) ≡ true
 unfolding judged
 judged-displayable v = by-tests v (ltZ (pos 99999) v) (ltZ v (minus 19999)) refl refl
 
-either : (b : Bool) (r s : Reading) → displayable r ≡ true → displayable s ≡ true → displayable (cond b r s) ≡ true
-either true r s p q = p
-either false r s p q = q
-
 -- every number that a sample can give lies in -19,999 to 99,999
 pub reading-displayable : (inputs displays : List ℤ) (count : ℕ) (step x : ℤ) → displayable (readingOf inputs displays count step x) ≡ true
 unfolding readingOf displayed displayable
 reading-displayable inputs displays count step x =
-    either (ltZ (pos 99999) x) Over _ refl
-    (either (ltZ x (minus 99999)) Under _ refl
-    (judged-displayable (toStep (lineOf inputs displays (segment inputs count x) x) (natAbs step))))
+    either (λ (r : Reading). displayable r ≡ true) (ltZ (pos 99999) x) refl
+    (either (λ (r : Reading). displayable r ≡ true) (ltZ x (minus 99999)) refl
+    (judged-displayable (toStep (onSegment inputs displays (segment inputs count x) x) (natAbs step))))
 
 -- ---- which segment it is, and that no other is
 
@@ -74,14 +70,14 @@ module _ (x0 y0 x1 y1 : ℤ) (up : ltZ x0 x1 ≡ true) where
   run-is : x1 -ℤ x0 ≡ pos (natAbs (x1 -ℤ x0))
   run-is = is-pos (x1 -ℤ x0) (lt-diff x0 x1 up .0)
 
-  pub line-left : line x0 y0 x1 y1 x0 ≡ y0
-  unfolding line
+  pub line-left : onLine x0 y0 x1 y1 x0 ≡ y0
+  unfolding onLine
   line-left =
       rw (+ℤ-invr x0, zero-*ℤ (y1 -ℤ y0), +ℤ-idr (y0 *ℤ (x1 -ℤ x0)), *ℤ-comm y0 (x1 -ℤ x0), run-is)
       (nearest-whole y0 (natAbs (x1 -ℤ x0)) (lt-diff x0 x1 up .1))
 
-  pub line-right : line x0 y0 x1 y1 x1 ≡ y1
-  unfolding line
+  pub line-right : onLine x0 y0 x1 y1 x1 ≡ y1
+  unfolding onLine
   line-right =
       let d = natAbs (x1 -ℤ x0) in
       rw (*ℤ-comm y0 (x1 -ℤ x0), run-is)
@@ -96,7 +92,7 @@ pub judged-in : (v : ℤ) → inDisplay v ≡ true → judged v ≡ Number v
 unfolding judged
 judged-in v i = let n = within-not (minus 19999) (pos 99999) v i in rw (n .0, n .1)
 
-module _ (inputs displays : List ℤ) (count : ℕ) (step : ℤ) (a : Accepted inputs displays count step) where
+module _ (inputs displays : List ℤ) (count : ℕ) (step : ℤ) (a : Scalable inputs displays count step) where
   -- the inputs of any two points rise
   rising-by : (j m k : ℕ) → k ≡ j + m + 1 → k < count → ltZ (point inputs j) (point inputs k) ≡ true
   rising-by j zero k e h =
@@ -128,22 +124,22 @@ module _ (inputs displays : List ℤ) (count : ℕ) (step : ℤ) (a : Accepted i
         here = λ l. le-refl (point inputs (j + 1));
       }
 
-  line-first : lineOf inputs displays (segment inputs count (point inputs 0)) (point inputs 0) ≡ point displays 0
+  line-first : onSegment inputs displays (segment inputs count (point inputs 0)) (point inputs 0) ≡ point displays 0
   line-first =
       rw (segment-only inputs count (point inputs 0) 0 first-segment)
       (line-left (point inputs 0) (point displays 0) (point inputs 1) (point displays 1) (a .rising 0 (omega (arith, a .two))))
 
-  line-later : (j : ℕ) → j + 1 < count → lineOf inputs displays (segment inputs count (point inputs (j + 1))) (point inputs (j + 1)) ≡ point displays (j + 1)
+  line-later : (j : ℕ) → j + 1 < count → onSegment inputs displays (segment inputs count (point inputs (j + 1))) (point inputs (j + 1)) ≡ point displays (j + 1)
   line-later j h =
       rw (segment-only inputs count (point inputs (j + 1)) j (later-segment j h))
       (line-right (point inputs j) (point displays j) (point inputs (j + 1)) (point displays (j + 1)) (a .rising j h))
 
-  line-at : (k : ℕ) → k < count → lineOf inputs displays (segment inputs count (point inputs k)) (point inputs k) ≡ point displays k
+  line-at : (k : ℕ) → k < count → onSegment inputs displays (segment inputs count (point inputs k)) (point inputs k) ≡ point displays k
   line-at zero h = line-first
   line-at (suc j) h = rw (add-one j) at (line-later j (rw (← add-one j) at h))
 
 -- with step 1 the reading at a point of the scale is the point's display
-pub at-point : (inputs displays : List ℤ) (count : ℕ) → Accepted inputs displays count (pos 1) → (k : ℕ) → k < count → readingOf inputs displays count (pos 1) (point inputs k) ≡ Number (point displays k)
+pub at-point : (inputs displays : List ℤ) (count : ℕ) → Scalable inputs displays count (pos 1) → (k : ℕ) → k < count → readingOf inputs displays count (pos 1) (point inputs k) ≡ Number (point displays k)
 unfolding readingOf displayed
 at-point inputs displays count a k h =
     let n = within-not (minus 99999) (pos 99999) (point inputs k) (a .inputs-in k h) in

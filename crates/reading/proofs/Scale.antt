@@ -8,12 +8,12 @@ use lib.IntN.{ℤ, pos}
 use Rattle.exact.specs.Sign.{within}
 use Rattle.exact.specs.Exact.{Fraction}
 use Rattle.exact.proofs.Z.{from-to}
-use Rattle.reading.specs.Reading.{inInput, point, segment, lineOf, pointsIn, Points, Accepted}
+use Rattle.reading.specs.Reading.{inInput, point, segment, onSegment, pointsIn, Points, Scalable}
 use Rattle.reading.proofs.Search.{segment-le}
 use Rattle.reading.proofs.Fit.{line-small}
 use Rattle.reading.proofs.Walk.{input-at, display-at, rises-at}
 
-module _ (inputs displays : List ℤ) (count : ℕ) (step : ℤ) (a : Accepted inputs displays count step) where
+module _ (inputs displays : List ℤ) (count : ℕ) (step : ℤ) (a : Scalable inputs displays count step) where
   pub right-there : (x : ℤ) → segment inputs count x + 1 < count
   right-there x = omega (arith, segment-le inputs x count, a .two)
 
@@ -30,7 +30,7 @@ module _ (inputs displays : List ℤ) (count : ℕ) (step : ℤ) (a : Accepted i
       }
 
   -- the line's whole number, over the step
-  pub over-step : (x : ℤ) (k : ℕ) → k + 1 < count → inInput x ≡ true → Fraction (lineOf inputs displays k x) step
+  pub over-step : (x : ℤ) (k : ℕ) → k + 1 < count → inInput x ≡ true → Fraction (onSegment inputs displays k x) step
   over-step x k h i =
       let s = from-to step 1 100 (a .step-in) in
       record {
@@ -40,7 +40,7 @@ module _ (inputs displays : List ℤ) (count : ℕ) (step : ℤ) (a : Accepted i
       }
 
 -- what the rules of a configuration give: rule 5 of 2 to 16 points and a step of 1 to 100
-pub accepted : (inputs displays : List ℤ) (count : ℕ) (step : ℤ) → 2 ≤ count → count ≤ 16 → pointsIn inputs displays count ≡ true → within (pos 1) (pos 100) step ≡ true → Accepted inputs displays count step
+pub accepted : (inputs displays : List ℤ) (count : ℕ) (step : ℤ) → 2 ≤ count → count ≤ 16 → pointsIn inputs displays count ≡ true → within (pos 1) (pos 100) step ≡ true → Scalable inputs displays count step
 accepted inputs displays count step two sixteen e s =
     record {
       two = two;

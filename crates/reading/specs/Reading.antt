@@ -37,13 +37,13 @@ segment inputs count x = firstFrom inputs x 0 (count - 2)
 
 -- the line through (x0, y0) and (x1, y1) at x is the exact fraction (y0 (x1 - x0) + (x - x0) (y1 - y0)) / (x1 - x0); as one
 -- whole it is rounded to the nearest whole number
-unfoldable pub line : ℤ → ℤ → ℤ → ℤ → ℤ → ℤ
-line x0 y0 x1 y1 x = nearest (y0 *ℤ (x1 -ℤ x0) +ℤ (x -ℤ x0) *ℤ (y1 -ℤ y0)) (natAbs (x1 -ℤ x0))
+unfoldable pub onLine : ℤ → ℤ → ℤ → ℤ → ℤ → ℤ
+onLine x0 y0 x1 y1 x = nearest (y0 *ℤ (x1 -ℤ x0) +ℤ (x -ℤ x0) *ℤ (y1 -ℤ y0)) (natAbs (x1 -ℤ x0))
 
 -- the line of segment k
-abbrev pub lineOf : List ℤ → List ℤ → ℕ → ℤ → ℤ
-lineOf inputs displays k x =
-    line (point inputs k) (point displays k) (point inputs (k + 1)) (point displays (k + 1)) x
+abbrev pub onSegment : List ℤ → List ℤ → ℕ → ℤ → ℤ
+onSegment inputs displays k x =
+    onLine (point inputs k) (point displays k) (point inputs (k + 1)) (point displays (k + 1)) x
 
 -- ---- the reading
 
@@ -60,7 +60,7 @@ unfoldable pub readingOf : List ℤ → List ℤ → ℕ → ℤ → ℤ → Rea
 readingOf inputs displays count step x =
     cond (ltZ (pos 99999) x) Over
     (cond (ltZ x (minus 99999)) Under
-    (displayed (natAbs step) (lineOf inputs displays (segment inputs count x) x)))
+    (displayed (natAbs step) (onSegment inputs displays (segment inputs count x) x)))
 
 -- a reading whose number, if it is one, lies in the display range
 unfoldable pub displayable : Reading → Bool
@@ -68,6 +68,13 @@ displayable Nothing = true
 displayable Under = true
 displayable (Number v) = inDisplay v
 displayable Over = true
+
+-- how far from zero the number lies that is shown
+abbrev pub size : Reading → ℕ
+size Nothing = 0
+size Under = 0
+size (Number v) = natAbs v
+size Over = 0
 
 -- ---- rule 5 of a configuration: of the points in use, inputs -99,999 to 99,999, strictly rising, displays -19,999 to 99,999
 
@@ -98,7 +105,7 @@ pub record Points (x0 y0 x1 y1 x : ℤ) : Type 0 where
 
 -- what an accepted configuration says of a scale: 2 to 16 points, of those in use inputs from -99,999 to 99,999 that
 -- rise strictly and displays from -19,999 to 99,999, and a step from 1 to 100
-pub record Accepted (inputs displays : List ℤ) (count : ℕ) (step : ℤ) : Type 0 where
+pub record Scalable (inputs displays : List ℤ) (count : ℕ) (step : ℤ) : Type 0 where
   pub two : 2 ≤ count
   pub sixteen : count ≤ 16
   pub inputs-in : (k : ℕ) → k < count → inInput (point inputs k) ≡ true

@@ -2,7 +2,7 @@
 ghost use mathlib.Core.Path.{_≡_};
 ghost use mathlib.Core.Bool.{_&&_};
 ghost use Prim.Native.Nat.{_≤_, _<_};
-ghost use Rattle.reading.specs.Reading.{inInput, inDisplay, segment, line, judged, readingOf, upTo, pointIn, risesAt, pointsIn, Points, Accepted};
+ghost use Rattle.reading.specs.Reading.{inInput, inDisplay, segment, onLine, judged, readingOf, displayable, upTo, pointIn, risesAt, pointsIn, Points, Scalable};
 
 // A reading: nothing before the first sample, a number, or beyond the display range.
 pub enum Reading {
@@ -32,9 +32,9 @@ fn segment(inputs: &[i32; 16], count: usize, input: i32) -> usize
 }
 
 // The line through (x0, y0) and (x1, y1) at x, as one exact fraction rounded to the nearest whole number.
-fn line(x0: i32, y0: i32, x1: i32, y1: i32, x: i32) -> i64
+fn on_line(x0: i32, y0: i32, x1: i32, y1: i32, x: i32) -> i64
     requires { ⌜ Points x0 y0 x1 y1 x ⌝ }
-    ensures { λ r. ⌜ r ≡ line x0 y0 x1 y1 x ⌝ }
+    ensures { λ r. ⌜ r ≡ onLine x0 y0 x1 y1 x ⌝ }
 {
     let start = y0 as i64;
     let rise = y1 as i64 - start;
@@ -63,7 +63,7 @@ pub fn reading_of<'a>(
     step: i32,
     input: i32,
 ) -> Reading
-    requires { ⌜ Accepted (now inputs) (now displays) count step ⌝ }
+    requires { ⌜ Scalable (now inputs) (now displays) count step ⌝ }
     ensures { λ r. ⌜ r ≡ readingOf (now (inputs .entry)) (now (displays .entry)) count step input ⌝ }
 {
     if input > 99999 {
@@ -73,7 +73,7 @@ pub fn reading_of<'a>(
         return Reading::Under;
     }
     let k = segment(inputs, count, input);
-    let whole = line(
+    let whole = on_line(
         inputs[k],
         displays[k],
         inputs[k + 1],
@@ -83,11 +83,30 @@ pub fn reading_of<'a>(
     judged(exact::to_step(whole, step as i64))
 }
 
+// Whether a number lies in the display range.
+pub fn in_display(z: i32) -> bool
+    ensures { λ r. ⌜ r ≡ inDisplay z ⌝ }
+{
+    (-19999 <= z) & (z <= 99999)
+}
+
+// Whether a reading can be displayed.
+pub fn is_displayable(reading: Reading) -> bool
+    ensures { λ r. ⌜ r ≡ displayable reading ⌝ }
+{
+    match reading {
+        Reading::Nothing => true,
+        Reading::Under => true,
+        Reading::Number(v) => in_display(v),
+        Reading::Over => true,
+    }
+}
+
 // Whether an input and a display lie in their ranges.
 fn point_in(input: i32, display: i32) -> bool
     ensures { λ r. ⌜ r ≡ inInput input && inDisplay display ⌝ }
 {
-    (-99999 <= input) & (input <= 99999) & ((-19999 <= display) & (display <= 99999))
+    (-99999 <= input) & (input <= 99999) & in_display(display)
 }
 
 // Whether the first count points all lie in their ranges. A test that fails does not end the walk, so the compiler takes several points

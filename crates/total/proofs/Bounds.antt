@@ -12,7 +12,7 @@ use Rattle.exact.specs.Sign.{minus}
 use Rattle.exact.specs.Exact.{cut}
 use Rattle.exact.proofs.Z.{never}
 use Rattle.total.specs.declared.Totalizer.{Totalizer}
-use Rattle.total.specs.Total.{Accepted, inTotal, unitOf, quotient}
+use Rattle.total.specs.Total.{Timed, inTotal, unitOf, quotient}
 use Rattle.total.proofs.Sums.{unit-some}
 
 -- two tests that pass together are equal
@@ -51,7 +51,7 @@ minus-test (suc k) n h =
     (λ e. lt-ltb n k (omega (arith, ltb-true (suc n) (suc k) e)))
 
 -- a sum is kept exactly while it lies above -200,000,000 units and below 1,000,000,000 units
-pub kept-exactly : (s : Totalizer) → Accepted s → (sum : ℤ) → inTotal (quotient s sum) ≡ ltZ (minus (200000000 * unitOf s)) sum && ltZ sum (pos (1000000000 * unitOf s))
+pub kept-exactly : (s : Totalizer) → Timed s → (sum : ℤ) → inTotal (quotient s sum) ≡ ltZ (minus (200000000 * unitOf s)) sum && ltZ sum (pos (1000000000 * unitOf s))
 unfolding quotient cut
 kept-exactly s a (pos n) =
     let u = unit-some s a in

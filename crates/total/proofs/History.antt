@@ -11,13 +11,13 @@ use Rattle.total.specs.declared.Totalizer.{Totalizer}
 use Rattle.total.specs.declared.Range.{Range}
 use Rattle.total.specs.declared.Range.the-variants.{Within, Under, Over}
 use Rattle.total.specs.declared.Total.{Total}
-use Rattle.total.specs.Total.{Accepted, Kept, quotient, left, added, sampleAdds, batchAdds, shown}
+use Rattle.total.specs.Total.{Timed, inRange, quotient, left, added, sampleAdds, batchAdds, shown}
 use Rattle.total.specs.History.{Event, sample, batchKey, resetKey, from, after, noReset, addedSince}
 use Rattle.total.proofs.Sums.{kept-sum}
 use Rattle.total.proofs.Laws.{reset-kept, added-kept, frozen, grows, shown-within}
 
 -- every total since power-up is kept: what the calls of this crate require is met by whoever starts at a reset
-pub history-kept : (s : Totalizer) (h : List Event) → Kept s (after s h)
+pub history-kept : (s : Totalizer) (h : List Event) → inRange s (after s h) ≡ true
 unfolding from
 history-kept s [] = reset-kept s
 history-kept s (sample r ∷ h) = added-kept s (after s h) (sampleAdds s r) (history-kept s h)
@@ -25,7 +25,7 @@ history-kept s (batchKey r ∷ h) = added-kept s (after s h) (batchAdds s r) (hi
 history-kept s (resetKey ∷ h) = reset-kept s
 
 -- for every accepted configuration and any number of events the sum stays below 2 ^ 61, and so within 64 signed bits
-pub history-fits : (s : Totalizer) → Accepted s → (h : List Event) → natAbs (after s h .sum) < 2 ^ 61
+pub history-fits : (s : Totalizer) → Timed s → (h : List Event) → natAbs (after s h .sum) < 2 ^ 61
 history-fits s a h = omega (arith, kept-sum s a (after s h) (history-kept s h))
 
 -- once Over or Under, nothing but a reset changes sum or range

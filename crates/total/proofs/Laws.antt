@@ -4,10 +4,9 @@ use mathlib.Core.Bool.{Bool, true, false, cond, not, _&&_}
 use native.Mathlib.Nat.{zero-div}
 use lib.IntN.{ℤ, pos, _+ℤ_, _*ℤ_, +ℤ-idr}
 use lib.Signed.{leZ, ltZ}
-use Rattle.exact.specs.Sign.{minus}
 use Rattle.exact.specs.Exact.{cut}
 use Rattle.exact.specs.Meaning.{IsCut}
-use Rattle.exact.proofs.Z.{never, both, not-lt, le-not-lt, lt-not-le}
+use Rattle.exact.proofs.Z.{never, within-is, within-not, lt-not-le}
 use Rattle.exact.proofs.Meaning.{cut-is}
 use Rattle.reading.specs.declared.Reading.{Reading}
 use Rattle.reading.specs.declared.Reading.the-variants.{Nothing, Under as ReadingUnder, Number, Over as ReadingOver}
@@ -15,13 +14,13 @@ use Rattle.total.specs.declared.Totalizer.{Totalizer}
 use Rattle.total.specs.declared.Range.{Range}
 use Rattle.total.specs.declared.Range.the-variants.{Within, Under, Over}
 use Rattle.total.specs.declared.Total.{Total}
-use Rattle.total.specs.Total.{Accepted, Kept, total, reset, inTotal, left, unitOf, quotient, summed, added, sampleAdds, batchAdds, sampled, batched, shown}
+use Rattle.total.specs.Total.{Timed, total, reset, least, most, inTotal, inRange, left, unitOf, quotient, summed, added, sampleAdds, batchAdds, sampled, batched, shown}
 use Rattle.total.proofs.Sums.{unit-some}
 
 -- ---- what is shown
 
 -- the cut quotient of the sum, in units of 20,000 × time base
-pub quotient-is : (s : Totalizer) → Accepted s → (sum : ℤ) → IsCut sum (unitOf s) (quotient s sum)
+pub quotient-is : (s : Totalizer) → Timed s → (sum : ℤ) → IsCut sum (unitOf s) (quotient s sum)
 unfolding quotient
 quotient-is s a sum = cut-is sum (unitOf s) (unit-some s a)
 
@@ -42,12 +41,12 @@ shown-over s t e = rw e
 
 module _ (s : Totalizer) (old new : ℤ) where
   -- above the range the total is Over, and the sum stays as it was before
-  pub goes-over : ltZ (pos 999999999) (quotient s new) ≡ true → summed s old new ≡ total old Over
+  pub goes-over : ltZ most (quotient s new) ≡ true → summed s old new ≡ total old Over
   unfolding summed
   goes-over e = rw e
 
   -- below the range it is Under, and the sum stays as it was before
-  pub goes-under : ltZ (pos 999999999) (quotient s new) ≡ false → ltZ (quotient s new) (minus 199999999) ≡ true → summed s old new ≡ total old Under
+  pub goes-under : ltZ most (quotient s new) ≡ false → ltZ (quotient s new) least ≡ true → summed s old new ≡ total old Under
   unfolding summed
   goes-under e f = rw (e, f)
 
@@ -55,23 +54,20 @@ module _ (s : Totalizer) (old new : ℤ) where
   pub stays-within : inTotal (quotient s new) ≡ true → summed s old new ≡ total new Within
   unfolding summed
   stays-within e =
-      let p = both (leZ (minus 199999999) (quotient s new)) (leZ (quotient s new) (pos 999999999)) e in
-      rw (le-not-lt (pos 999999999) (quotient s new) (p .1), le-not-lt (quotient s new) (minus 199999999) (p .0))
+      let n = within-not least most (quotient s new) e in
+      rw (n .0, n .1)
 
 -- ---- the outcomes of an addition
-
-in-range : (q : ℤ) → ltZ (pos 999999999) q ≡ false → ltZ q (minus 199999999) ≡ false → inTotal q ≡ true
-in-range q e f = rw (not-lt q (minus 199999999) f, not-lt (pos 999999999) q e)
 
 module _ (s : Totalizer) (P : Total → Type 0) where
   by-range : (y : ℤ) (g : Range) (x : ℤ) → (left g ≡ true → P (total y g)) → (left g ≡ false → P (total y Over)) → (left g ≡ false → P (total y Under)) → (left g ≡ false → inTotal (quotient s (y +ℤ x)) ≡ true → P (total (y +ℤ x) Within)) → P (added s (total y g) x)
   unfolding added summed
-  by-range y Within x f o u w = go (ltZ (pos 999999999) (quotient s (y +ℤ x))) (ltZ (quotient s (y +ℤ x)) (minus 199999999)) refl refl
+  by-range y Within x f o u w = go (ltZ most (quotient s (y +ℤ x))) (ltZ (quotient s (y +ℤ x)) least) refl refl
     where
-      go : (b c : Bool) → ltZ (pos 999999999) (quotient s (y +ℤ x)) ≡ b → ltZ (quotient s (y +ℤ x)) (minus 199999999) ≡ c → P (cond b (total y Over) (cond c (total y Under) (total (y +ℤ x) Within)))
+      go : (b c : Bool) → ltZ most (quotient s (y +ℤ x)) ≡ b → ltZ (quotient s (y +ℤ x)) least ≡ c → P (cond b (total y Over) (cond c (total y Under) (total (y +ℤ x) Within)))
       go true c d e = o refl
       go false true d e = u refl
-      go false false d e = w refl (in-range (quotient s (y +ℤ x)) d e)
+      go false false d e = w refl (within-is least most (quotient s (y +ℤ x)) d e)
   by-range y Under x f o u w = f refl
   by-range y Over x f o u w = f refl
 
@@ -80,22 +76,21 @@ module _ (s : Totalizer) (P : Total → Type 0) where
   pub by-outcome : (t : Total) (x : ℤ) → (left (t .range) ≡ true → P t) → (left (t .range) ≡ false → P (total (t .sum) Over)) → (left (t .range) ≡ false → P (total (t .sum) Under)) → (left (t .range) ≡ false → inTotal (quotient s (t .sum +ℤ x)) ≡ true → P (total (t .sum +ℤ x) Within)) → P (added s t x)
   by-outcome t x = by-range (t .sum) (t .range) x
 
--- ---- `Kept` is kept
+-- ---- a sum in range stays in range
 
-pub reset-kept : (s : Totalizer) → Kept s reset
+pub reset-kept : (s : Totalizer) → inRange s reset ≡ true
 unfolding quotient cut
-reset-kept s = record { in-range = rw (zero-div (unitOf s)) }
+reset-kept s = rw (zero-div (unitOf s))
 
 module _ (s : Totalizer) (t : Total) where
-  pub added-kept : (x : ℤ) → Kept s t → Kept s (added s t x)
+  pub added-kept : (x : ℤ) → inRange s t ≡ true → inRange s (added s t x) ≡ true
   added-kept x k =
-      by-outcome s (Kept s) t x (λ e. k) (λ e. record { in-range = k .in-range }) (λ e. record { in-range = k .in-range })
-      (λ e i. record { in-range = i })
+      by-outcome s (λ u. inRange s u ≡ true) t x (λ e. k) (λ e. k) (λ e. k) (λ e i. i)
 
-  pub sampled-kept : (r : Reading) → Kept s t → Kept s (sampled s t r)
+  pub sampled-kept : (r : Reading) → inRange s t ≡ true → inRange s (sampled s t r) ≡ true
   sampled-kept r = added-kept (sampleAdds s r)
 
-  pub batched-kept : (r : Reading) → Kept s t → Kept s (batched s t r)
+  pub batched-kept : (r : Reading) → inRange s t ≡ true → inRange s (batched s t r) ≡ true
   batched-kept r = added-kept (batchAdds s r)
 
   -- ---- additions and the range
@@ -116,14 +111,14 @@ module _ (s : Totalizer) (t : Total) where
       by-outcome s (λ u. left (u .range) ≡ false → (left (t .range) ≡ false) × (u .sum ≡ t .sum +ℤ x)) t x
       (λ l e. never (sym e ∙ l)) (λ w e. never (sym e)) (λ w e. never (sym e)) (λ w i e. (w, refl))
 
-nothing-in : (s : Totalizer) (y : ℤ) (g : Range) → Kept s (total y g) → added s (total y g) (pos 0) ≡ total y g
+nothing-in : (s : Totalizer) (y : ℤ) (g : Range) → inRange s (total y g) ≡ true → added s (total y g) (pos 0) ≡ total y g
 unfolding added
-nothing-in s y Within k = rw (+ℤ-idr y) (stays-within s y y (k .in-range))
+nothing-in s y Within k = rw (+ℤ-idr y) (stays-within s y y k)
 nothing-in s y Under k = refl
 nothing-in s y Over k = refl
 
 -- what adds nothing changes nothing
-pub adds-nothing : (s : Totalizer) (t : Total) → Kept s t → added s t (pos 0) ≡ t
+pub adds-nothing : (s : Totalizer) (t : Total) → inRange s t ≡ true → added s t (pos 0) ≡ t
 adds-nothing s t k = nothing-in s (t .sum) (t .range) k
 
 -- ---- what a sample adds

@@ -7,18 +7,18 @@ use lib.Dec.{lit<}
 use lib.IntN.{ℤ, pos, natAbs, _+ℤ_, _*ℤ_}
 use mir.Syntax.{w32, w64}
 use mir.Val.{SFits, toZ, ofZ}
-use mathlib.Core.Bool.{false}
+use mathlib.Core.Bool.{true, false}
 use Rattle.exact.specs.Sign.{isNeg}
 use Rattle.exact.specs.Exact.{Divisor}
 use Rattle.exact.proofs.Z.{abs-fits, abs-add-le, abs-mul-le, fits-abs, widened, is-pos, from-to, between-is}
 use Rattle.exact.proofs.Meaning.{abs-cut}
 use Rattle.total.specs.declared.Totalizer.{Totalizer}
 use Rattle.total.specs.declared.Total.{Total}
-use Rattle.total.specs.Total.{Accepted, Kept, unitOf, quotient}
+use Rattle.total.specs.Total.{Timed, inRange, unitOf, quotient}
 
 -- ---- the unit, 20,000 × time base
 
-module _ (s : Totalizer) (a : Accepted s) where
+module _ (s : Totalizer) (a : Timed s) where
   base : (isNeg (s .«time_base») ≡ false) × ((1 ≤ natAbs (s .«time_base»)) × (natAbs (s .«time_base») ≤ 86400))
   base = from-to (s .«time_base») 1 86400 (a .base-in)
 
@@ -47,11 +47,11 @@ module _ (s : Totalizer) (a : Accepted s) where
   -- ---- a kept sum
 
   -- its total has at most nine digits
-  pub kept-total : (t : Total) → Kept s t → natAbs (quotient s (t .sum)) ≤ 999999999
-  kept-total t k = between-is (quotient s (t .sum)) 999999999 199999998 (lit< tt) (k .in-range)
+  pub kept-total : (t : Total) → inRange s t ≡ true → natAbs (quotient s (t .sum)) ≤ 999999999
+  kept-total t k = between-is (quotient s (t .sum)) 999999999 199999998 (lit< tt) k
 
   -- and the sum is below 10 ^ 9 units of a day
-  pub kept-sum : (t : Total) → Kept s t → natAbs (t .sum) < 1728 * 10 ^ 15
+  pub kept-sum : (t : Total) → inRange s t ≡ true → natAbs (t .sum) < 1728 * 10 ^ 15
   unfolding quotient
   kept-sum t k =
       let q = natAbs (t .sum) / unitOf s in
@@ -60,7 +60,7 @@ module _ (s : Totalizer) (a : Accepted s) where
       omega (arith, lt-div-mul-add {a = natAbs (t .sum)} {b = unitOf s} unit-some, mul-le-mul-right (unitOf s) b)
 
   -- what may be added to it
-  pub sum-fits : (t : Total) (x : ℤ) → Kept s t → natAbs x ≤ 2 ^ 62 → SFits w64 (t .sum +ℤ x)
+  pub sum-fits : (t : Total) (x : ℤ) → inRange s t ≡ true → natAbs x ≤ 2 ^ 62 → SFits w64 (t .sum +ℤ x)
   sum-fits t x k h = abs-fits _ (omega (arith, kept-sum t k, abs-add-le (t .sum) x))
 
   -- ---- what is added

@@ -29,14 +29,20 @@ unfoldable pub quotient : Totalizer → ℤ → ℤ
 quotient s sum = cut sum (unitOf s)
 
 -- the range of the total, -199,999,999 to 999,999,999
+abbrev pub least : ℤ
+least = minus 199999999
+
+abbrev pub most : ℤ
+most = pos 999999999
+
 abbrev pub inTotal : ℤ → Bool
-inTotal q = within (minus 199999999) (pos 999999999) q
+inTotal q = within least most q
 
 -- a new sum is taken while its total stays in range; where the total would leave, it is Over or Under and the sum stays as it was before
 unfoldable pub summed : Totalizer → ℤ → ℤ → Total
 summed s old new =
-    cond (ltZ (pos 999999999) (quotient s new)) (total old Over)
-    (cond (ltZ (quotient s new) (minus 199999999)) (total old Under)
+    cond (ltZ most (quotient s new)) (total old Over)
+    (cond (ltZ (quotient s new) least) (total old Under)
     (total new Within))
 
 -- the total is Over or Under
@@ -86,9 +92,9 @@ shown s t = shownAs (t .range) (quotient s (t .sum))
 -- ---- what the arithmetic leans on
 
 -- of an accepted configuration: a time base of 1 second to a day. The scale factor may be any number that a setting can hold
-pub record Accepted (s : Totalizer) : Type 0 where
+pub record Timed (s : Totalizer) : Type 0 where
   pub base-in : within (pos 1) (pos 86400) (s .«time_base») ≡ true
 
 -- the sum of a total, Over or Under too, is one whose quotient lies in the range
-pub record Kept (s : Totalizer) (t : Total) : Type 0 where
-  pub in-range : inTotal (quotient s (t .sum)) ≡ true
+abbrev pub inRange : Totalizer → Total → Bool
+inRange s t = inTotal (quotient s (t .sum))

@@ -1,9 +1,10 @@
 // The total: a sum that samples or batch keys add to, and the cut quotient of it that is shown.
 use reading::Reading;
 ghost use mathlib.Core.Path.{_≡_};
+ghost use mathlib.Core.Bool.{true};
 ghost use Prim.Native.Nat.{_^_, _≤_};
 ghost use lib.IntN.{pos, natAbs};
-ghost use Rattle.total.specs.Total.{Accepted, Kept, unitOf, quotient, summed, added, counts, sampleAdds, batchAdds, sampled, batched, reset, shown};
+ghost use Rattle.total.specs.Total.{Timed, unitOf, quotient, summed, added, counts, sampleAdds, batchAdds, sampled, batched, reset, shown, inRange};
 
 // What the configuration says of the total: the scale factor in thousandths, the time base in seconds.
 pub struct Totalizer {
@@ -28,7 +29,7 @@ pub struct Total {
 
 // What one of the total is in the sum: 20,000 × time base.
 fn unit_of(s: Totalizer) -> i64
-    requires { ⌜ Accepted s ⌝ }
+    requires { ⌜ Timed s ⌝ }
     ensures { λ r. ⌜ r ≡ pos (unitOf s) ⌝ }
 {
     20000 * s.time_base as i64
@@ -36,7 +37,7 @@ fn unit_of(s: Totalizer) -> i64
 
 // The total of a sum, cut towards zero.
 fn quotient(s: Totalizer, sum: i64) -> i64
-    requires { ⌜ Accepted s ⌝ }
+    requires { ⌜ Timed s ⌝ }
     ensures { λ r. ⌜ r ≡ quotient s sum ⌝ }
 {
     exact::cut(sum, unit_of(s))
@@ -44,7 +45,7 @@ fn quotient(s: Totalizer, sum: i64) -> i64
 
 // The new sum where its total stays in range, the old one where it would leave.
 fn summed(s: Totalizer, old: i64, new: i64) -> Total
-    requires { ⌜ Accepted s ⌝ }
+    requires { ⌜ Timed s ⌝ }
     ensures { λ r. ⌜ r ≡ summed s old new ⌝ }
 {
     let q = quotient(s, new);
@@ -68,8 +69,8 @@ fn summed(s: Totalizer, old: i64, new: i64) -> Total
 
 // x more on the sum, unless the total is Over or Under.
 fn added(s: Totalizer, t: Total, x: i64) -> Total
-    requires { ⌜ Accepted s ⌝ }
-    requires { ⌜ Kept s t ⌝ }
+    requires { ⌜ Timed s ⌝ }
+    requires { ⌜ inRange s t ≡ true ⌝ }
     requires { ⌜ natAbs x ≤ 2 ^ 62 ⌝ }
     ensures { λ r. ⌜ r ≡ added s t x ⌝ }
 {
@@ -110,7 +111,7 @@ fn sample_adds(s: Totalizer, reading: Reading) -> i64
 
 // What key 1 adds in batch: the reading itself in units of the total, without factor or low cut.
 fn batch_adds(s: Totalizer, reading: Reading) -> i64
-    requires { ⌜ Accepted s ⌝ }
+    requires { ⌜ Timed s ⌝ }
     ensures { λ r. ⌜ r ≡ batchAdds s reading ⌝ }
     ensures small { λ r. ⌜ natAbs r ≤ 2 ^ 62 ⌝ }
 {
@@ -124,8 +125,8 @@ fn batch_adds(s: Totalizer, reading: Reading) -> i64
 
 // The total after a sample.
 pub fn sampled(s: Totalizer, t: Total, reading: Reading) -> Total
-    requires { ⌜ Accepted s ⌝ }
-    requires { ⌜ Kept s t ⌝ }
+    requires { ⌜ Timed s ⌝ }
+    requires { ⌜ inRange s t ≡ true ⌝ }
     ensures { λ r. ⌜ r ≡ sampled s t reading ⌝ }
 {
     added(s, t, sample_adds(s, reading))
@@ -133,8 +134,8 @@ pub fn sampled(s: Totalizer, t: Total, reading: Reading) -> Total
 
 // The total after key 1 in a meter set for batch.
 pub fn batched(s: Totalizer, t: Total, reading: Reading) -> Total
-    requires { ⌜ Accepted s ⌝ }
-    requires { ⌜ Kept s t ⌝ }
+    requires { ⌜ Timed s ⌝ }
+    requires { ⌜ inRange s t ≡ true ⌝ }
     ensures { λ r. ⌜ r ≡ batched s t reading ⌝ }
 {
     added(s, t, batch_adds(s, reading))
@@ -152,8 +153,8 @@ pub fn reset() -> Total
 
 // The total that is shown.
 pub fn shown(s: Totalizer, t: Total) -> Reading
-    requires { ⌜ Accepted s ⌝ }
-    requires { ⌜ Kept s t ⌝ }
+    requires { ⌜ Timed s ⌝ }
+    requires { ⌜ inRange s t ≡ true ⌝ }
     ensures { λ r. ⌜ r ≡ shown s t ⌝ }
 {
     let range = t.range;
@@ -162,4 +163,13 @@ pub fn shown(s: Totalizer, t: Total) -> Reading
         Range::Under => Reading::Under,
         Range::Over => Reading::Over,
     }
+}
+
+// Whether the total lies in its range: the sum is held against the limits times the unit, which spares a division.
+pub fn is_in_range(s: Totalizer, t: Total) -> bool
+    requires { ⌜ Timed s ⌝ }
+    ensures { λ r. ⌜ r ≡ inRange s t ⌝ }
+{
+    let unit = unit_of(s);
+    (-200000000 * unit < t.sum) & (t.sum < 1000000000 * unit)
 }

@@ -9,7 +9,7 @@ use lib.Signed.{ltZ}
 use mir.Facts.{toZ-ofZ}
 use Rattle.exact.specs.Sign.{minus}
 use Rattle.exact.proofs.Z.{back32, back64, widens, widened, within-is}
-use Rattle.reading.specs.Reading.{inInput, point, segment, lineOf, displayed, readingOf}
+use Rattle.reading.specs.Reading.{inInput, point, segment, onSegment, displayed, readingOf}
 use Rattle.reading.proofs.Scale.{right-there, points, over-step}
 use Rattle.reading.proofs.reading_of.Statement.{statement}
 use Rattle.reading.proofs.reading_of.Tie as tie
@@ -49,63 +49,63 @@ right c =
 there : (c : tie.After-segment) → c .segment .result + 1 < 16
 there c = omega (arith, right c, c .before .before .before .pre .sixteen)
 
-mul-line : tie.Need-mul-line
-mul-line c = omega (arith, there c)
+mul-on-line : tie.Need-mul-on-line
+mul-on-line c = omega (arith, there c)
 
-element-copy-out-line : tie.Need-element-copy-out-line
-element-copy-out-line c = omega (arith, there c)
+element-copy-out-on-line : tie.Need-element-copy-out-on-line
+element-copy-out-on-line c = omega (arith, there c)
 
-mul-line-2 : tie.Need-mul-line-2
-mul-line-2 c = omega (arith, there (c .before))
+mul-on-line-2 : tie.Need-mul-on-line-2
+mul-on-line-2 c = omega (arith, there (c .before))
 
-element-copy-out-line-2 : tie.Need-element-copy-out-line-2
-element-copy-out-line-2 c = omega (arith, there (c .before))
+element-copy-out-on-line-2 : tie.Need-element-copy-out-on-line-2
+element-copy-out-on-line-2 c = omega (arith, there (c .before))
 
-add-line : tie.Need-add-line
-add-line c = omega (arith, there (c .before .before))
+add-on-line : tie.Need-add-on-line
+add-on-line c = omega (arith, there (c .before .before))
 
-mul-line-3 : tie.Need-mul-line-3
-mul-line-3 c = omega (arith, there (c .before .before))
+mul-on-line-3 : tie.Need-mul-on-line-3
+mul-on-line-3 c = omega (arith, there (c .before .before))
 
-element-copy-out-line-3 : tie.Need-element-copy-out-line-3
-element-copy-out-line-3 c = omega (arith, there (c .before .before))
+element-copy-out-on-line-3 : tie.Need-element-copy-out-on-line-3
+element-copy-out-on-line-3 c = omega (arith, there (c .before .before))
 
-add-line-2 : tie.Need-add-line-2
-add-line-2 c = omega (arith, there (c .before .before .before))
+add-on-line-2 : tie.Need-add-on-line-2
+add-on-line-2 c = omega (arith, there (c .before .before .before))
 
-mul-line-4 : tie.Need-mul-line-4
-mul-line-4 c = omega (arith, there (c .before .before .before))
+mul-on-line-4 : tie.Need-mul-on-line-4
+mul-on-line-4 c = omega (arith, there (c .before .before .before))
 
-element-copy-out-line-4 : tie.Need-element-copy-out-line-4
-element-copy-out-line-4 c = omega (arith, there (c .before .before .before))
+element-copy-out-on-line-4 : tie.Need-element-copy-out-on-line-4
+element-copy-out-on-line-4 c = omega (arith, there (c .before .before .before))
 
-line-requires : tie.Need-line-requires
-line-requires c κs =
+on-line-requires : tie.Need-on-line-requires
+on-line-requires c κs =
     let g = c .before .before .before .before in
     let s = g .before .before .before in
     let k = g .segment .result in
     rw (
-      back32 (point (s .args .inputs .now) k) (c .before .before .before .line-arg .given),
-      back32 (point (s .args .displays .now) k) (c .before .before .line-arg2 .given),
-      back32 (point (s .args .inputs .now) (k + 1)) (c .before .line-arg3 .given),
-      back32 (point (s .args .displays .now) (k + 1)) (c .line-arg4 .given),
+      back32 (point (s .args .inputs .now) k) (c .before .before .before .on-line-arg .given),
+      back32 (point (s .args .displays .now) k) (c .before .before .on-line-arg2 .given),
+      back32 (point (s .args .inputs .now) (k + 1)) (c .before .on-line-arg3 .given),
+      back32 (point (s .args .displays .now) (k + 1)) (c .on-line-arg4 .given),
       toZ-ofZ (s .fits .input),
     )
     (points _ _ _ _ (s .pre) (s .args .input) k (right g) (scaled (g .before)))
 
 -- the whole number of the line
-whole : (c : tie.After-line) → c .line .result ≡ lineOf (c .before .before .before .before .before .before .before .before .args .inputs .now) (c .before .before .before .before .before .before .before .before .args .displays .now) (c .before .before .before .before .before .segment .result) (c .before .before .before .before .before .before .before .before .args .input)
+whole : (c : tie.After-on-line) → c .on-line .result ≡ onSegment (c .before .before .before .before .before .before .before .before .args .inputs .now) (c .before .before .before .before .before .before .before .before .args .displays .now) (c .before .before .before .before .before .segment .result) (c .before .before .before .before .before .before .before .before .args .input)
 whole c =
     let a = c .before in
     let g = a .before .before .before .before in
     let s = g .before .before .before in
     let k = g .segment .result in
-    c .line .ensures
+    c .on-line .ensures
     ∙ rw (
-      back32 (point (s .args .inputs .now) k) (a .before .before .before .line-arg .given),
-      back32 (point (s .args .displays .now) k) (a .before .before .line-arg2 .given),
-      back32 (point (s .args .inputs .now) (k + 1)) (a .before .line-arg3 .given),
-      back32 (point (s .args .displays .now) (k + 1)) (a .line-arg4 .given),
+      back32 (point (s .args .inputs .now) k) (a .before .before .before .on-line-arg .given),
+      back32 (point (s .args .displays .now) k) (a .before .before .on-line-arg2 .given),
+      back32 (point (s .args .inputs .now) (k + 1)) (a .before .on-line-arg3 .given),
+      back32 (point (s .args .displays .now) (k + 1)) (a .on-line-arg4 .given),
       toZ-ofZ (s .fits .input),
     )
 
@@ -116,7 +116,7 @@ to-step-requires : tie.Need-to-step-requires
 to-step-requires c κs =
     let g = c .before .before .before .before .before in
     let s = g .before .before .before in
-    rw (back64 (c .line .result) (c .line .ok), whole c, widened (s .fits .step))
+    rw (back64 (c .on-line .result) (c .on-line .ok), whole c, widened (s .fits .step))
     (over-step _ _ _ _ (s .pre) (s .args .input) (g .segment .result) (right g) (scaled (g .before)))
 
 judged-requires : tie.Need-judged-requires
@@ -131,7 +131,7 @@ returns-3 c =
     let s = g .before .before .before in
     rw (not-over (g .before .before), not-under (g .before))
     (c .judged .ensures
-    ∙ rw (back64 (t .to-step .result) (t .to-step .ok), t .to-step .ensures, back64 (l .line .result) (l .line .ok), whole l, widened (s .fits .step), found g))
+    ∙ rw (back64 (t .to-step .result) (t .to-step .ok), t .to-step .ensures, back64 (l .on-line .result) (l .on-line .ok), whole l, widened (s .fits .step), found g))
 
 pub reading-of-spec : {M : Type 1} → statement M
 reading-of-spec =
@@ -140,17 +140,17 @@ reading-of-spec =
     returns
     returns-2
     segment-requires
-    mul-line
-    element-copy-out-line
-    mul-line-2
-    element-copy-out-line-2
-    add-line
-    mul-line-3
-    element-copy-out-line-3
-    add-line-2
-    mul-line-4
-    element-copy-out-line-4
-    line-requires
+    mul-on-line
+    element-copy-out-on-line
+    mul-on-line-2
+    element-copy-out-on-line-2
+    add-on-line
+    mul-on-line-3
+    element-copy-out-on-line-3
+    add-on-line-2
+    mul-on-line-4
+    element-copy-out-on-line-4
+    on-line-requires
     cast-to-step
     to-step-requires
     judged-requires

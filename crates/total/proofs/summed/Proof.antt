@@ -2,13 +2,12 @@
 use borrow.Author.Needs.{needs}
 use mathlib.Core.Path.{_≡_, ap, _∙_}
 use mathlib.Core.Bool.{false}
-use lib.IntN.{pos}
 use lib.Signed.{ltZ}
 use mir.Syntax.{w64}
 use mir.Val.{toZ, ofZ}
 use mir.Facts.{toZ-ofZ}
 use Rattle.exact.proofs.Z.{back64}
-use Rattle.total.specs.Total.{quotient, summed}
+use Rattle.total.specs.Total.{quotient, most, summed}
 use Rattle.total.proofs.summed.Statement.{statement}
 use Rattle.total.proofs.summed.Tie as tie
 
@@ -25,7 +24,7 @@ returns : tie.Need-returns
 unfolding summed
 returns c = rw (rw (q-is (c .before)) at (c .if1 .taken), toZ-ofZ (c .before .before .fits .old))
 
-not-over : (c : tie.Else1) → ltZ (pos 999999999) (quotient (c .before .before .args .s) (c .before .before .args .new)) ≡ false
+not-over : (c : tie.Else1) → ltZ most (quotient (c .before .before .args .s) (c .before .before .args .new)) ≡ false
 not-over c = rw (q-is (c .before)) at (c .if1 .left)
 
 returns-2 : tie.Need-returns-2

@@ -1,11 +1,11 @@
--- `reading::line` meets its contract: each step of the fraction fits, so the fraction that is rounded is the definition's. Assumes nothing.
+-- `reading::on_line` meets its contract: each step of the fraction fits, so the fraction that is rounded is the definition's. Assumes nothing.
 use mathlib.Core.Path.{_∙_}
 use mir.Facts.{toZ-ofZ}
 use Rattle.exact.proofs.Z.{widens, widened, back64}
-use Rattle.reading.specs.Reading.{line}
+use Rattle.reading.specs.Reading.{onLine}
 use Rattle.reading.proofs.Fit.{Fit, fit}
-use Rattle.reading.proofs.line.Statement.{statement}
-use Rattle.reading.proofs.line.Tie as tie
+use Rattle.reading.proofs.on_line.Statement.{statement}
+use Rattle.reading.proofs.on_line.Tie as tie
 
 of : (s : tie.Start) → Fit (s .args .x0) (s .args .y0) (s .args .x1) (s .args .y1) (s .args .x)
 of s = fit _ _ _ _ _ (s .pre)
@@ -58,7 +58,7 @@ nearest-requires c κs =
     (f .fraction)
 
 returns : tie.Need-returns
-unfolding line
+unfolding onLine
 returns c =
     let s = c .before in
     let f = of s in
@@ -66,8 +66,8 @@ returns c =
     (c .nearest .ensures
     ∙ simp (widened (s .fits .x0), widened (s .fits .x1), widened (s .fits .x), widened (s .fits .y0), widened (s .fits .y1), toZ-ofZ (f .run), toZ-ofZ (f .along), toZ-ofZ (f .rise), toZ-ofZ (f .start), toZ-ofZ (f .climb), toZ-ofZ (f .whole)))
 
-pub line-spec : {M : Type 1} → statement M
-line-spec =
+pub on-line-spec : {M : Type 1} → statement M
+on-line-spec =
     tie.close
     (tie.spec
     cast-start
