@@ -1,22 +1,11 @@
--- Tests that hold together, and the test of a range of bytes.
-use mathlib.Core.Path.{_≡_, refl}
-use mathlib.Core.Bool.{Bool, true, false, _&&_}
+-- The test of a range of bytes.
+use mathlib.Core.Path.{_≡_}
+use mathlib.Core.Bool.{true, false}
 use Prim.Native.Nat.{ℕ, _<_, _≤_}
-use native.Mathlib.Omega.{arith}
 use lib.Dec.{leb}
 use borrow.Author.Tests.{le-leb, lt-leb, leb-true}
+use Rattle.exact.proofs.Z.{both, and-false}
 use Rattle.register.specs.Bytes.{within}
-
-pub never : {A : Type 0} → false ≡ true → A
-never e = let z : _≡_ {A = ℕ} 0 1 = cc in absurd (omega arith)
-
-pub both : (t u : Bool) → (t && u) ≡ true → (t ≡ true) × (u ≡ true)
-both true u e = (refl, e)
-both false u e = never e
-
-and-false : (t : Bool) → (t && false) ≡ false
-and-false true = refl
-and-false false = refl
 
 -- what a test of a range says, and when it holds
 pub range : (low high b : ℕ) → within low high b ≡ true → (low ≤ b) × (b ≤ high)

@@ -1,18 +1,19 @@
 -- What the list of registers says: one computed test of the whole list, and what it says of each register.
-use mathlib.Core.Path.{_≡_, refl, ap, _∙_}
-use mathlib.Core.Bool.{Bool, true, false, not, _&&_, _||_}
-use mathlib.Core.List.{List, [], _∷_}
-use mathlib.Core.Logic.{_⊎_, inl, inr}
-use Prim.Native.Nat.{ℕ, zero, suc, _+_, _-_, _*_, _<_}
+use mathlib.Core.Path.{_≡_, refl, sym, ap, _∙_}
+use mathlib.Core.Bool.{Bool, true, false, cond, not, _&&_, _||_}
+use mathlib.Core.List.{List, [], _∷_, map}
+use mathlib.Core.Logic.{_⊎_, inl, inr, ⊎-elim}
+use Prim.Native.Nat.{ℕ, zero, suc, _+_, _-_, _*_, _<_, _≤_}
+use Prim.Native.Char.{Char}
 use native.Mathlib.Omega.{arith}
 use native.Mathlib.Nat.{le-of-suc-le-suc, not-suc-le-zero}
 use lib.Dec.{eqb}
 use lib.ListN.{length, getD}
 use borrow.Author.Tests.{eqb-true, eq-eqb}
-use Rattle.register.specs.Bytes.{byte, within}
+use Rattle.register.specs.Bytes.{byte, ascii, within}
 use Rattle.register.specs.declared.Register.{Register}
-use Rattle.register.specs.Registers.{registers, no-register, entry, index}
-use Rattle.register.proofs.Ranges.{never, both, range, in-range}
+use Rattle.register.specs.Registers.{registers, noRegister, entry, count, placeIn, index, at}
+use Rattle.exact.proofs.Z.{never, both}
 
 -- a test of each entry of a table with its place, and what it says of one entry
 abbrev placed : {A : Type 0} → (ℕ → A → Bool) → ℕ → List A → Bool
@@ -73,9 +74,9 @@ ruled-by i x t =
       reset = alike-eq (x .reset) (within (byte "B") (byte "H") (x .letter)) (s .1);
     }
 
-pub ruled : (i : ℕ) → i < 10 → Ruled i (entry i)
+pub ruled : (i : ℕ) → i < count → Ruled i (entry i)
 unfolding entry
-ruled i h = ruled-by i (getD registers i no-register) (placed-here rule registers no-register refl i h)
+ruled i h = ruled-by i (getD registers i noRegister) (placed-here rule registers noRegister refl i h)
 
 -- ── no two mnemonics are alike ──
 
@@ -92,32 +93,72 @@ apart-eq : (i j m n : ℕ) (t : Bool) → eqb i j ≡ t → (t || not (eqb m n))
 apart-eq i j m n true e a k = eqb-true i j e
 apart-eq i j m n false e a k = never (rw (eq-eqb m n k) at a)
 
-pub mnemonics-differ : (i j : ℕ) → i < 10 → j < 10 → entry i .mnemonic ≡ entry j .mnemonic → i ≡ j
+pub mnemonics-differ : (i j : ℕ) → i < count → j < count → entry i .mnemonic ≡ entry j .mnemonic → i ≡ j
 unfolding entry
 mnemonics-differ i j h k e =
-    let x = getD registers i no-register in
-    let y = getD registers j no-register in
-    let row : placed (apart i x) 0 registers ≡ true = placed-here (λ a (z : Register). placed (apart a z) 0 registers) registers no-register refl i h in
+    let x = getD registers i noRegister in
+    let y = getD registers j noRegister in
+    let row : placed (apart i x) 0 registers ≡ true = placed-here (λ a (z : Register). placed (apart a z) 0 registers) registers noRegister refl i h in
     apart-eq i j (spelled (x .mnemonic)) (spelled (y .mnemonic)) (eqb i j) refl
-    (placed-here (apart i x) registers no-register row j k)
+    (placed-here (apart i x) registers noRegister row j k)
     (ap spelled e)
 
 -- ── letters and places ──
 
--- a letter of the list has its place, any other byte has place 10
-index-by : (b : ℕ) (t : Bool) → within (byte "A") (byte "J") b ≡ t → (index b ≡ 10) ⊎ ((index b < 10) × (entry (index b) .letter ≡ b))
-unfolding index
-index-by b false e = inl (rw e)
-index-by b true e =
-    let h = range (byte "A") (byte "J") b e in
-    let k : b - byte "A" < 10 = omega arith in
-    inr (rw e (k, ruled (b - byte "A") k .letter ∙ omega arith))
+-- the search finds each letter of the list at its own place
+abbrev found-here : ℕ → Register → Bool
+found-here i x = eqb (index (x .letter)) i
 
-pub index-of-letter : (b : ℕ) → (index b ≡ 10) ⊎ ((index b < 10) × (entry (index b) .letter ≡ b))
-index-of-letter b = index-by b (within (byte "A") (byte "J") b) refl
+pub letter-index : (i : ℕ) → i < count → index (entry i .letter) ≡ i
+unfolding index entry
+letter-index i h = eqb-true _ _ (placed-here found-here registers noRegister refl i h)
 
-pub letter-index : (i : ℕ) → i < 10 → index (entry i .letter) ≡ i
-unfolding index
-letter-index i h =
-    let e = ruled i h .letter in
-    rw (e, in-range (byte "A") (byte "J") (byte "A" + i) (omega arith) (omega arith)) (omega arith)
+-- and a byte either nowhere or at a register with that letter, whatever the list
+abbrev Sought : List Register → Register → ℕ → ℕ → Type 0
+Sought rs d b i = (i ≡ length rs) ⊎ ((i < length rs) × (getD rs i d .letter ≡ b))
+
+sought-by : (r : Register) (rs : List Register) (d : Register) (b : ℕ) (t : Bool) → eqb b (r .letter) ≡ t → Sought rs d b (placeIn rs b) → Sought (r ∷ rs) d b (cond t 0 (suc (placeIn rs b)))
+sought-by r rs d b true e found = inr (omega arith, sym (eqb-true b (r .letter) e))
+sought-by r rs d b false e (inl none) = inl (ap suc none)
+sought-by r rs d b false e (inr some) = inr (omega arith, some .1)
+
+sought : (rs : List Register) (d : Register) (b : ℕ) → Sought rs d b (placeIn rs b)
+sought [] d b = inl refl
+sought (r ∷ rs) d b = sought-by r rs d b (eqb b (r .letter)) refl (sought rs d b)
+
+pub index-of-letter : (b : ℕ) → (index b ≡ count) ⊎ ((index b < count) × (entry (index b) .letter ≡ b))
+unfolding index entry
+index-of-letter b = sought registers noRegister b
+
+-- so the bytes A to J are found in their order, and no other byte is found
+pub index-in : (b : ℕ) → byte "A" ≤ b → b ≤ byte "J" → index b ≡ b - byte "A"
+index-in b h k =
+    let i : b - byte "A" < count = omega arith in
+    let e : entry (b - byte "A") .letter ≡ b = ruled (b - byte "A") i .letter ∙ omega arith in
+    rw e at (letter-index (b - byte "A") i)
+
+pub index-out : (b : ℕ) → (b < byte "A") ⊎ (byte "J" < b) → index b ≡ count
+index-out b out =
+    ⊎-elim (λ none. none)
+    (λ some.
+    let e = ruled (index b) (some .0) .letter in
+    absurd (⊎-elim (λ h. omega (arith, e, some)) (λ h. omega (arith, e, some)) out))
+    (index-of-letter b)
+
+-- ── the registers that definitions and code name ──
+
+-- each letter, the place by which the code knows it, and its mnemonic
+pub named : map {B = ℕ × List ℕ} (λ (l : Char). (at l, entry (at l) .mnemonic)) ("A" ∷ "B" ∷ "C" ∷ "D" ∷ "E" ∷ "F" ∷ "G" ∷ "H" ∷ "I" ∷ "J" ∷ [])
+    ≡ (0, ascii "INP")
+    ∷ (1, ascii "TOT")
+    ∷ (2, ascii "MAX")
+    ∷ (3, ascii "MIN")
+    ∷ (4, ascii "SP1")
+    ∷ (5, ascii "SP2")
+    ∷ (6, ascii "SP3")
+    ∷ (7, ascii "SP4")
+    ∷ (8, ascii "AOR")
+    ∷ (9, ascii "CSR")
+    ∷ []
+unfolding entry
+named = refl

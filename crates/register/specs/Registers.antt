@@ -1,9 +1,12 @@
--- The ten registers, one fixed list: letter, mnemonic, and which of T, V and R take it. A register is known by its place in the list: A is 0, J is 9.
-use Prim.Native.Nat.{ℕ, _-_}
+-- The registers, one fixed list: letter, mnemonic, and which of T, V and R take it. A register is known by its place in the list, which
+-- a search for its letter finds; definitions name it by its letter.
+use Prim.Native.Nat.{ℕ, suc}
+use Prim.Native.Char.{Char}
 use mathlib.Core.Bool.{Bool, true, false, cond}
 use mathlib.Core.List.{List, [], _∷_}
-use lib.ListN.{getD}
-use Rattle.register.specs.Bytes.{byte, ascii, within}
+use lib.Dec.{eqb}
+use lib.ListN.{length, getD}
+use Rattle.register.specs.Bytes.{byte, ascii}
 use Rattle.register.specs.declared.Register.{Register}
 
 -- letter and mnemonic; T reads it, V writes it, R resets it
@@ -25,13 +28,25 @@ registers =
     ∷ []
 
 -- what stands past the list's end: no command takes it
-abbrev pub no-register : Register
-no-register = row 0 (0 ∷ 0 ∷ 0 ∷ []) false false false
+abbrev pub noRegister : Register
+noRegister = row 0 (0 ∷ 0 ∷ 0 ∷ []) false false false
 
 -- the register at a place of the list
 unfoldable pub entry : ℕ → Register
-entry i = getD registers i no-register
+entry i = getD registers i noRegister
 
--- the place of a letter in the list, and 10, past its end, for any other byte
+-- how many there are
+abbrev pub count : ℕ
+count = length registers
+
+-- the place of the first register with a letter; past the list's end where none has it
+abbrev pub placeIn : List Register → ℕ → ℕ
+placeIn [] b = 0
+placeIn (r ∷ rs) b = cond (eqb b (r .letter)) 0 (suc (placeIn rs b))
+
 unfoldable pub index : ℕ → ℕ
-index b = cond (within (byte "A") (byte "J") b) (b - byte "A") 10
+index b = placeIn registers b
+
+-- the register that a definition names
+abbrev pub at : Char → ℕ
+at letter = placeIn registers (byte letter)

@@ -1,4 +1,4 @@
-// The ten registers: letter, mnemonic and permitted commands, one constant table.
+// The registers: letter, mnemonic and permitted commands, one constant table; and what a block print may choose of them.
 ghost use mathlib.Core.Path.{_≡_};
 ghost use Rattle.register.specs.Registers.{entry, index};
 
@@ -11,7 +11,39 @@ pub struct Register {
     pub reset: bool,
 }
 
-const REGISTERS: [Register; 10] = [
+// What a block print shows: the input, max with min, the total, all four setpoints.
+pub struct Print {
+    pub input: bool,
+    pub extremes: bool,
+    pub total: bool,
+    pub setpoints: bool,
+}
+
+// How many registers there are.
+pub const COUNT: usize = 10;
+
+// The places of those that code names.
+pub const INP: usize = 0;
+
+pub const TOT: usize = 1;
+
+pub const MAX: usize = 2;
+
+pub const MIN: usize = 3;
+
+pub const SP1: usize = 4;
+
+pub const SP2: usize = 5;
+
+pub const SP3: usize = 6;
+
+pub const SP4: usize = 7;
+
+pub const AOR: usize = 8;
+
+pub const CSR: usize = 9;
+
+const REGISTERS: [Register; COUNT] = [
     Register {
         letter: b'A',
         mnemonic: *b"INP",
@@ -88,7 +120,7 @@ const REGISTERS: [Register; 10] = [
 pub fn register_at(index: usize) -> Register
     ensures { λ r. ⌜ r ≡ entry index ⌝ }
 {
-    if index < 10 {
+    if index < COUNT {
         return REGISTERS[index];
     }
     Register {
@@ -100,13 +132,13 @@ pub fn register_at(index: usize) -> Register
     }
 }
 
-// The place of a letter in the table, and 10, past its end, for any other byte.
+// The place of a letter in the table, and past its end for any other byte.
 pub fn index_of(letter: u8) -> usize
     ensures { λ r. ⌜ r ≡ index letter ⌝ }
 {
     match letter {
         b'A'..=b'J' => wide(letter - b'A'),
-        _ => 10,
+        _ => COUNT,
     }
 }
 

@@ -5,7 +5,7 @@ use mathlib.Core.List.{List, [], _∷_}
 use Prim.Native.Nat.{ℕ, zero, suc, _<_}
 use native.Mathlib.Omega.{arith}
 use lib.ListN.{length, getD, List·getD-eq-default}
-use Rattle.register.specs.Registers.{registers, no-register, entry}
+use Rattle.register.specs.Registers.{registers, noRegister, entry}
 use Rattle.register.proofs.register_at.Statement.{statement}
 use Rattle.register.proofs.register_at.Tie as tie
 
@@ -23,11 +23,11 @@ array-copy-out-result c = search needs
 
 returns : tie.Need-returns
 unfolding entry
-returns c = getD-any registers (c .before .before .args .index) _ no-register (search needs)
+returns c = getD-any registers (c .before .before .args .index) _ noRegister (search needs)
 
 returns-2 : tie.Need-returns-2
 unfolding entry
-returns-2 c = sym (List·getD-eq-default registers no-register (c .if1 .left))
+returns-2 c = sym (List·getD-eq-default registers noRegister (c .if1 .left))
 
 pub register-at-spec : {M : Type 1} → statement M
 register-at-spec = tie.close (tie.spec mul-result array-copy-out-result returns returns-2)
