@@ -11,7 +11,7 @@ use lib.ListN.{length, take, drop, take-append-drop, length-append, length-drop}
 use lib.Seq.{drop-at}
 use lib.IntN.{ℤ, pos, negℤ, natAbs}
 use Rattle.register.specs.Bytes.{byte}
-use Rattle.command.specs.Number.{is-digit, figures, keep, digits, filled, onward, value, last, amount, number, plus, minus}
+use Rattle.command.specs.Number.{isDigit, figures, keep, digits, filled, onward, value, last, amount, number, plus, minus}
 use Rattle.register.proofs.Ranges.{range}
 use Rattle.command.specs.declared.Amount.{Amount}
 use Rattle.command.specs.declared.Amount.the-variants.{Of, NoAmount}
@@ -91,13 +91,13 @@ last-five {ds} t = five-by ds (leb 5 (length ds)) refl t
 
 -- ── the reader, from any place of the number on ──
 
-tens-keep : (t : Bool) (b : ℕ) {ds : List ℕ} → is-digit b ≡ t → Tens ds → Tens (keep t (b - byte "0") ds)
+tens-keep : (t : Bool) (b : ℕ) {ds : List ℕ} → isDigit b ≡ t → Tens ds → Tens (keep t (b - byte "0") ds)
 tens-keep true b e t = let h = range (byte "0") (byte "9") b e in one {d = b - byte "0"} (omega arith) t
 tens-keep false b e t = t
 
 pub tens : (s : List ℕ) → Tens (digits s)
 tens [] = none
-tens (b ∷ s) = tens-keep (is-digit b) b refl (tens s)
+tens (b ∷ s) = tens-keep (isDigit b) b refl (tens s)
 
 -- what the rest of a number makes of n, read so far, and of whether a digit was seen
 unfoldable pub left : ℕ → Bool → List ℕ → Amount
@@ -111,7 +111,7 @@ or-true : (t : Bool) → (t || true) ≡ true
 or-true true = refl
 or-true false = refl
 
-pub left-digit : (n : ℕ) (seen : Bool) (b : ℕ) (s : List ℕ) → is-digit b ≡ true → left n seen (b ∷ s) ≡ left ((10 * n + (b - byte "0")) % 100000) true s
+pub left-digit : (n : ℕ) (seen : Bool) (b : ℕ) (s : List ℕ) → isDigit b ≡ true → left n seen (b ∷ s) ≡ left ((10 * n + (b - byte "0")) % 100000) true s
 unfolding left
 left-digit n seen b s e = rw (e, or-true seen, onward-mod (10 * n + (b - byte "0")) (digits s))
 
@@ -119,7 +119,7 @@ pub left-point : (n : ℕ) (seen : Bool) (b : ℕ) (s : List ℕ) → b ≡ byte
 unfolding left
 left-point n seen b s e = rw e
 
-pub left-other : (n : ℕ) (seen : Bool) (b : ℕ) (s : List ℕ) → is-digit b ≡ false → (b ≡ byte "." → ⊥) → left n seen (b ∷ s) ≡ NoAmount
+pub left-other : (n : ℕ) (seen : Bool) (b : ℕ) (s : List ℕ) → isDigit b ≡ false → (b ≡ byte "." → ⊥) → left n seen (b ∷ s) ≡ NoAmount
 unfolding left
 left-other n seen b s e h = rw (e, ne-eqb b (byte ".") h)
 
@@ -152,7 +152,7 @@ keep-append false d a b = refl
 
 pub digits-append : (s t : List ℕ) → digits (s ++ t) ≡ digits s ++ digits t
 digits-append [] t = refl
-digits-append (b ∷ s) t = ap (keep (is-digit b) (b - byte "0")) (digits-append s t) ∙ keep-append (is-digit b) (b - byte "0") (digits s) (digits t)
+digits-append (b ∷ s) t = ap (keep (isDigit b) (b - byte "0")) (digits-append s t) ∙ keep-append (isDigit b) (b - byte "0") (digits s) (digits t)
 
 pub point-ignored : (s t : List ℕ) → digits (s ++ byte "." ∷ t) ≡ digits (s ++ t)
 point-ignored s t = digits-append s (byte "." ∷ t) ∙ sym (digits-append s t)

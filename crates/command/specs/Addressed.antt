@@ -5,7 +5,7 @@ use mathlib.Core.List.{List, [], _∷_}
 use mathlib.Core.Option.{Option, none, some}
 use lib.Dec.{eqb}
 use Rattle.register.specs.Bytes.{byte}
-use Rattle.command.specs.Number.{is-digit, value}
+use Rattle.command.specs.Number.{isDigit, value}
 use Rattle.command.specs.declared.Parsed.{Parsed}
 use Rattle.command.specs.declared.Parsed.the-variants.{NoNode, To}
 
@@ -13,7 +13,7 @@ use Rattle.command.specs.declared.Parsed.the-variants.{NoNode, To}
 abbrev pub leading : ℕ → List ℕ → List ℕ
 leading zero s = []
 leading (suc k) [] = []
-leading (suc k) (b ∷ s) = cond (is-digit b) ((b - byte "0") ∷ leading k s) []
+leading (suc k) (b ∷ s) = cond (isDigit b) ((b - byte "0") ∷ leading k s) []
 
 -- the number of some digits; with no digit there is none
 abbrev pub numbered : List ℕ → Option ℕ
@@ -26,6 +26,6 @@ addressed [] = some 0
 addressed (b ∷ s) = cond (eqb b (byte "N")) (numbered (leading 2 s)) (some 0)
 
 -- the node that the parser finds
-abbrev pub node-of : Parsed → Option ℕ
-node-of NoNode = none
-node-of (To n a) = some n
+abbrev pub parsedNode : Parsed → Option ℕ
+parsedNode NoNode = none
+parsedNode (To n a) = some n

@@ -12,16 +12,16 @@ use Rattle.command.specs.declared.Amount.the-variants.{Of, NoAmount}
 use Rattle.command.specs.declared.Number.{Number}
 use Rattle.command.specs.declared.Number.the-variants.{Is, NoNumber}
 
-abbrev pub is-digit : ℕ → Bool
-is-digit b = within (byte "0") (byte "9") b
+abbrev pub isDigit : ℕ → Bool
+isDigit b = within (byte "0") (byte "9") b
 
-abbrev pub is-point : ℕ → Bool
-is-point b = eqb b (byte ".")
+abbrev pub isPoint : ℕ → Bool
+isPoint b = eqb b (byte ".")
 
 -- digits and points, and nothing else
 abbrev pub figures : List ℕ → Bool
 figures [] = true
-figures (b ∷ s) = (is-digit b || is-point b) && figures s
+figures (b ∷ s) = (isDigit b || isPoint b) && figures s
 
 -- the digits of a string, in order, each as its number
 abbrev pub keep : Bool → ℕ → List ℕ → List ℕ
@@ -30,7 +30,7 @@ keep false d ds = ds
 
 abbrev pub digits : List ℕ → List ℕ
 digits [] = []
-digits (b ∷ s) = keep (is-digit b) (b - byte "0") (digits s)
+digits (b ∷ s) = keep (isDigit b) (b - byte "0") (digits s)
 
 -- at least one
 abbrev pub filled : List ℕ → Bool

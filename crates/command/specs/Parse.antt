@@ -4,8 +4,8 @@ use mathlib.Core.Bool.{cond}
 use mathlib.Core.List.{List, [], _∷_}
 use lib.Dec.{leb, eqb}
 use Rattle.register.specs.Bytes.{byte}
-use Rattle.register.specs.Registers.{entry, index}
-use Rattle.command.specs.Number.{is-digit, number}
+use Rattle.register.specs.Registers.{entry, count, index, at}
+use Rattle.command.specs.Number.{isDigit, number}
 use Rattle.command.specs.declared.Number.{Number}
 use Rattle.command.specs.declared.Number.the-variants.{Is, NoNumber}
 use Rattle.command.specs.declared.Asked.{Asked}
@@ -15,11 +15,11 @@ use Rattle.command.specs.declared.Parsed.the-variants.{NoNode, To}
 
 -- ── command, register, data ──
 
--- the place of the register whose letter is all that stands there, and 10 for anything else
+-- the place of the register whose letter is all that stands there, and past the list's end for anything else
 unfoldable pub sole : List ℕ → ℕ
-sole [] = 10
+sole [] = count
 sole (l ∷ []) = index l
-sole (l ∷ b ∷ s) = 10
+sole (l ∷ b ∷ s) = count
 
 -- T takes a register
 unfoldable pub reading : List ℕ → Asked
@@ -40,18 +40,18 @@ status [] = BadForm
 status (b ∷ []) = cond (leb b 127) (Status b) BadForm
 status (b ∷ c ∷ s) = BadForm
 
-abbrev pub write-to : ℕ → Number → Asked
-write-to r (Is z) = Write r z
-write-to r NoNumber = BadForm
+abbrev pub writeTo : ℕ → Number → Asked
+writeTo r (Is z) = Write r z
+writeTo r NoNumber = BadForm
 
 -- the data of V: a byte for J, else a number
-unfoldable pub data-of : ℕ → List ℕ → Asked
-data-of r s = cond (eqb r 9) (status s) (write-to r (number s))
+unfoldable pub dataOf : ℕ → List ℕ → Asked
+dataOf r s = cond (eqb r (at "J")) (status s) (writeTo r (number s))
 
 -- V takes a register and its data
 unfoldable pub writing : List ℕ → Asked
 writing [] = BadForm
-writing (l ∷ s) = cond (entry (index l) .written) (data-of (index l) s) BadForm
+writing (l ∷ s) = cond (entry (index l) .written) (dataOf (index l) s) BadForm
 
 unfoldable pub body : List ℕ → Asked
 body [] = BadForm
@@ -64,14 +64,14 @@ body (b ∷ s) =
 
 -- ── the address: N with one or two digits, as many as stand there; no N means node 0 ──
 
-unfoldable pub second-digit : ℕ → List ℕ → Parsed
-second-digit d [] = To d BadForm
-second-digit d (b ∷ s) = cond (is-digit b) (To (10 * d + (b - byte "0")) (body s)) (To d (body (b ∷ s)))
+unfoldable pub secondDigit : ℕ → List ℕ → Parsed
+secondDigit d [] = To d BadForm
+secondDigit d (b ∷ s) = cond (isDigit b) (To (10 * d + (b - byte "0")) (body s)) (To d (body (b ∷ s)))
 
-unfoldable pub first-digit : List ℕ → Parsed
-first-digit [] = NoNode
-first-digit (b ∷ s) = cond (is-digit b) (second-digit (b - byte "0") s) NoNode
+unfoldable pub firstDigit : List ℕ → Parsed
+firstDigit [] = NoNode
+firstDigit (b ∷ s) = cond (isDigit b) (secondDigit (b - byte "0") s) NoNode
 
 unfoldable pub parse : List ℕ → Parsed
 parse [] = To 0 BadForm
-parse (b ∷ s) = cond (eqb b (byte "N")) (first-digit s) (To 0 (body (b ∷ s)))
+parse (b ∷ s) = cond (eqb b (byte "N")) (firstDigit s) (To 0 (body (b ∷ s)))

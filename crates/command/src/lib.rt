@@ -5,10 +5,10 @@ ghost use Prim.Native.Nat.{_<_, _≤_};
 ghost use lib.ListN.{take};
 ghost use lib.IntN.{pos, negℤ};
 ghost use Rattle.command.specs.Number.{amount, number};
-ghost use Rattle.command.specs.Parse.{sole, reading, resetting, printing, status, data-of, writing, body, second-digit, first-digit, parse};
+ghost use Rattle.command.specs.Parse.{sole, reading, resetting, printing, status, dataOf, writing, body, secondDigit, firstDigit, parse};
 
 // What a string asks: T reads a register, P prints a block, R resets a register, V writes a number to a register or a byte to J.
-// A register is given by its place in the table: A is 0, J is 9.
+// A register is given by its place in the table.
 pub enum Asked {
     Read(usize),
     Print,
@@ -108,12 +108,12 @@ fn number_of(s: &[u8]) -> Number
     }
 }
 
-// The register of T and R, whose letter is all that stands there: its place, and 10 for anything else.
+// The register of T and R, whose letter is all that stands there: its place, and past the table's end for anything else.
 fn sole_register(s: &[u8]) -> usize
     ensures { λ r. ⌜ r ≡ sole (now (s .entry)) ⌝ }
 {
     if s.len() != 1 {
-        return 10;
+        return register::COUNT;
     }
     register::index_of(s[0])
 }
@@ -171,9 +171,9 @@ fn status(s: &[u8]) -> Asked
 
 // The data of V: a byte for J, else a number.
 fn data_of(i: usize, s: &[u8]) -> Asked
-    ensures { λ r. ⌜ r ≡ data-of i (now (s .entry)) ⌝ }
+    ensures { λ r. ⌜ r ≡ dataOf i (now (s .entry)) ⌝ }
 {
-    if i == 9 {
+    if i == register::CSR {
         return status(s);
     }
     let n = number_of(s);
@@ -220,7 +220,7 @@ fn body(s: &[u8]) -> Asked
 // Behind N and a digit: a second digit, if one stands there.
 fn second_digit(d: u8, s: &[u8]) -> Parsed
     requires { ⌜ d < 10 ⌝ }
-    ensures { λ r. ⌜ r ≡ second-digit d (now (s .entry)) ⌝ }
+    ensures { λ r. ⌜ r ≡ secondDigit d (now (s .entry)) ⌝ }
 {
     if s.len() == 0 {
         return Parsed::To(d, Asked::BadForm);
@@ -240,7 +240,7 @@ fn second_digit(d: u8, s: &[u8]) -> Parsed
 
 // Behind N: one or two digits.
 fn first_digit(s: &[u8]) -> Parsed
-    ensures { λ r. ⌜ r ≡ first-digit (now (s .entry)) ⌝ }
+    ensures { λ r. ⌜ r ≡ firstDigit (now (s .entry)) ⌝ }
 {
     if s.len() == 0 {
         return Parsed::NoNode;

@@ -2,9 +2,9 @@
 use mathlib.Core.Path.{refl}
 use Rattle.register.specs.Registers.{entry, index}
 use Rattle.command.specs.Number.{amount, number}
-use Rattle.command.specs.Parse.{sole, reading, resetting, printing, status, data-of, writing, body, first-digit, second-digit, parse}
+use Rattle.command.specs.Parse.{sole, reading, resetting, printing, status, dataOf, writing, body, firstDigit, secondDigit, parse}
 use Rattle.form.specs.Cases.{Right}
 
 pub right : Right
-unfolding parse first-digit second-digit body reading resetting printing writing data-of status sole number amount index entry
+unfolding parse firstDigit secondDigit body reading resetting printing writing dataOf status sole number amount index entry
 right = refl

@@ -10,11 +10,11 @@ use lib.Dec.{leb, eqb}
 use lib.IntN.{ℤ, pos, negℤ}
 use lib.ListN.{length, take, drop, take-append-drop, length-drop}
 use Rattle.register.specs.Bytes.{byte}
-use Rattle.register.specs.Registers.{no-register, entry, index}
-use Rattle.command.specs.Number.{is-digit, is-point, figures, keep, digits, filled, onward, value, last, amount, number, plus, minus}
-use Rattle.command.specs.Parse.{sole, reading, resetting, printing, status, write-to, data-of, writing, body, first-digit, second-digit, parse}
+use Rattle.register.specs.Registers.{noRegister, entry, count, index, at}
+use Rattle.command.specs.Number.{isDigit, isPoint, figures, keep, digits, filled, onward, value, last, amount, number, plus, minus}
+use Rattle.command.specs.Parse.{sole, reading, resetting, printing, status, writeTo, dataOf, writing, body, firstDigit, secondDigit, parse}
 use Rattle.form.specs.Grammar as form
-use Rattle.form.specs.Grammar.{Digit, Begins-N, Begins-digit, Figures, Last-five, Worth, Counts, Numeral, Letter, Body, For}
+use Rattle.form.specs.Grammar.{Digit, BeginsN, BeginsDigit, Figures, LastFive, Worth, Counts, Numeral, Letter, Body, For}
 use Rattle.register.specs.declared.Register.{Register}
 use Rattle.command.specs.declared.Amount.{Amount}
 use Rattle.command.specs.declared.Amount.the-variants.{Of, NoAmount}
@@ -24,14 +24,14 @@ use Rattle.command.specs.declared.Asked.{Asked}
 use Rattle.command.specs.declared.Asked.the-variants.{Read, Reset, Status, BadForm}
 use Rattle.command.specs.declared.Parsed.{Parsed}
 use Rattle.command.specs.declared.Parsed.the-variants.{NoNode, To}
-use Rattle.register.proofs.Ranges.{never, both}
+use Rattle.exact.proofs.Z.{never, both}
 use Rattle.register.proofs.Table.{index-of-letter}
 use Rattle.command.proofs.Digits.{last-all}
-use Rattle.form.proofs.Said.{digit-test, digit-of, nine}
+use Rattle.form.proofs.Said.{digit-test, digit-of, letter-j}
 
 -- ── a V number ──
 
-figures-by : (b : ℕ) (s : List ℕ) (t u : Bool) → is-digit b ≡ t → is-point b ≡ u → (t || u) ≡ true → Figures (digits s) s → Figures (keep t (b - byte "0") (digits s)) (b ∷ s)
+figures-by : (b : ℕ) (s : List ℕ) (t u : Bool) → isDigit b ≡ t → isPoint b ≡ u → (t || u) ≡ true → Figures (digits s) s → Figures (keep t (b - byte "0") (digits s)) (b ∷ s)
 figures-by b s true u e k h f = form.digit (digit-of b e) f
 figures-by b s false true e k h f = subst (λ (x : ℕ). Figures (digits s) (x ∷ s)) (sym (eqb-true b (byte ".") k)) (form.point f)
 figures-by b s false false e k h f = never h
@@ -39,19 +39,19 @@ figures-by b s false false e k h f = never h
 figures-found : (s : List ℕ) → figures s ≡ true → Figures (digits s) s
 figures-found [] e = form.end
 figures-found (b ∷ s) e =
-    let p = both (is-digit b || is-point b) (figures s) e in
-    figures-by b s (is-digit b) (is-point b) refl refl (p .0) (figures-found s (p .1))
+    let p = both (isDigit b || isPoint b) (figures s) e in
+    figures-by b s (isDigit b) (isPoint b) refl refl (p .0) (figures-found s (p .1))
 
-last-five-by : (ds : List ℕ) (t : Bool) → leb 5 (length ds) ≡ t → Last-five ds (last 5 ds)
+last-five-by : (ds : List ℕ) (t : Bool) → leb 5 (length ds) ≡ t → LastFive ds (last 5 ds)
 last-five-by ds true e =
     let k = length ds - 5 in
-    subst (λ (l : List ℕ). Last-five l (last 5 ds)) (take-append-drop k ds)
+    subst (λ (l : List ℕ). LastFive l (last 5 ds)) (take-append-drop k ds)
     (form.five (take k ds) {fs = drop k ds} (length-drop k ds ∙ omega (arith, leb-true)))
 last-five-by ds false e =
     let h : length ds ≤ 5 = omega (arith, leb-false) in
-    subst (Last-five ds) (sym (last-all ds h)) (form.all h)
+    subst (LastFive ds) (sym (last-all ds h)) (form.all h)
 
-last-five-found : (ds : List ℕ) → Last-five ds (last 5 ds)
+last-five-found : (ds : List ℕ) → LastFive ds (last 5 ds)
 last-five-found ds = last-five-by ds (leb 5 (length ds)) refl
 
 worth-onward : {n : ℕ} {a : List ℕ} → Worth n a → (ds : List ℕ) → Worth (onward n ds) (a ++ ds)
@@ -108,12 +108,12 @@ abbrev pub Judged : Asked → List ℕ → Type 0
 Judged c s = (c ≡ BadForm) ⊎ Body c s
 
 -- a register that a command takes is one of the list
-taken-by : (f : Register → Bool) (l : ℕ) → f no-register ≡ false → f (entry (index l)) ≡ true → ((index l ≡ 10) ⊎ ((index l < 10) × (entry (index l) .letter ≡ l))) → Letter (index l) l
+taken-by : (f : Register → Bool) (l : ℕ) → f noRegister ≡ false → f (entry (index l)) ≡ true → ((index l ≡ count) ⊎ ((index l < count) × (entry (index l) .letter ≡ l))) → Letter (index l) l
 unfolding entry
 taken-by f l g e (inl h) = never (sym g ∙ rw h at e)
 taken-by f l g e (inr h) = record { listed = h .0; letter = h .1 }
 
-taken : (f : Register → Bool) (l : ℕ) → f no-register ≡ false → f (entry (index l)) ≡ true → Letter (index l) l
+taken : (f : Register → Bool) (l : ℕ) → f noRegister ≡ false → f (entry (index l)) ≡ true → Letter (index l) l
 taken f l g e = taken-by f l g e (index-of-letter l)
 
 read-by : (l : ℕ) (t : Bool) → entry (index l) .read ≡ t → Judged (cond t (Read (index l)) BadForm) (byte "T" ∷ l ∷ [])
@@ -151,26 +151,26 @@ status-found [] = inl refl
 status-found (b ∷ []) = status-by b (leb b 127) refl
 status-found (b ∷ c ∷ s) = inl refl
 
-write-found : (r l : ℕ) (s : List ℕ) (n : Number) → Letter r l → entry r .written ≡ true → l ≢ byte "J" → Numbered s n → Judged (write-to r n) (byte "V" ∷ l ∷ s)
-write-found r l s n h v j (inl e) = inl (ap (write-to r) e)
-write-found r l s n h v j (inr q) = inr (subst (λ (c : Asked). Body c (byte "V" ∷ l ∷ s)) (ap (write-to r) (sym (q .1))) (form.write h v j (q .2)))
+write-found : (r l : ℕ) (s : List ℕ) (n : Number) → Letter r l → entry r .written ≡ true → l ≢ byte "J" → Numbered s n → Judged (writeTo r n) (byte "V" ∷ l ∷ s)
+write-found r l s n h v j (inl e) = inl (ap (writeTo r) e)
+write-found r l s n h v j (inr q) = inr (subst (λ (c : Asked). Body c (byte "V" ∷ l ∷ s)) (ap (writeTo r) (sym (q .1))) (form.write h v j (q .2)))
 
-j-nine : (l : ℕ) → l ≡ byte "J" → index l ≡ 9
+index-j : (l : ℕ) → l ≡ byte "J" → index l ≡ at "J"
 unfolding index
-j-nine l e = rw e
+index-j l e = rw e
 
-data-by : (l : ℕ) (s : List ℕ) (t : Bool) → eqb (index l) 9 ≡ t → entry (index l) .written ≡ true → Judged (cond t (status s) (write-to (index l) (number s))) (byte "V" ∷ l ∷ s)
+data-by : (l : ℕ) (s : List ℕ) (t : Bool) → eqb (index l) (at "J") ≡ t → entry (index l) .written ≡ true → Judged (cond t (status s) (writeTo (index l) (number s))) (byte "V" ∷ l ∷ s)
 data-by l s true e v =
-    subst (λ (x : ℕ). Judged (status s) (byte "V" ∷ x ∷ s)) (sym (nine (taken (λ x. x .written) l refl v) (eqb-true (index l) 9 e))) (status-found s)
+    subst (λ (x : ℕ). Judged (status s) (byte "V" ∷ x ∷ s)) (sym (letter-j (taken (λ x. x .written) l refl v) (eqb-true (index l) (at "J") e))) (status-found s)
 data-by l s false e v =
     let h = taken (λ x. x .written) l refl v in
-    write-found (index l) l s (number s) h v (λ j. eqb-false (index l) 9 e (j-nine l j)) (number-found s)
+    write-found (index l) l s (number s) h v (λ j. eqb-false (index l) (at "J") e (index-j l j)) (number-found s)
 
-data-found : (l : ℕ) (s : List ℕ) → entry (index l) .written ≡ true → Judged (data-of (index l) s) (byte "V" ∷ l ∷ s)
-unfolding data-of
-data-found l s v = data-by l s (eqb (index l) 9) refl v
+data-found : (l : ℕ) (s : List ℕ) → entry (index l) .written ≡ true → Judged (dataOf (index l) s) (byte "V" ∷ l ∷ s)
+unfolding dataOf
+data-found l s v = data-by l s (eqb (index l) (at "J")) refl v
 
-writing-by : (l : ℕ) (s : List ℕ) (t : Bool) → entry (index l) .written ≡ t → Judged (cond t (data-of (index l) s) BadForm) (byte "V" ∷ l ∷ s)
+writing-by : (l : ℕ) (s : List ℕ) (t : Bool) → entry (index l) .written ≡ t → Judged (cond t (dataOf (index l) s) BadForm) (byte "V" ∷ l ∷ s)
 writing-by l s true e = data-found l s e
 writing-by l s false e = inl refl
 
@@ -195,23 +195,23 @@ body-found (b ∷ s) =
 
 -- ── the address ──
 
-pub n-first : {s : List ℕ} → Begins-N s → (b : ℕ) (t : List ℕ) → s ≡ b ∷ t → b ≡ byte "N"
+pub n-first : {s : List ℕ} → BeginsN s → (b : ℕ) (t : List ℕ) → s ≡ b ∷ t → b ≡ byte "N"
 n-first form.begins-n b t e = cc
 
-pub n-some : {s : List ℕ} → Begins-N s → s ≢ []
+pub n-some : {s : List ℕ} → BeginsN s → s ≢ []
 n-some form.begins-n = λ e. let z : _≡_ {A = ℕ} 0 1 = cc in omega arith
 
-pub digit-first : {s : List ℕ} → Begins-digit s → (b : ℕ) (t : List ℕ) → s ≡ b ∷ t → is-digit b ≡ true
-digit-first (form.begins-digit {b = c} h) b t e = let k : c ≡ b = cc in subst (λ (x : ℕ). is-digit x ≡ true) k (digit-test h)
+pub digit-first : {s : List ℕ} → BeginsDigit s → (b : ℕ) (t : List ℕ) → s ≡ b ∷ t → isDigit b ≡ true
+digit-first (form.begins-digit {b = c} h) b t e = let k : c ≡ b = cc in subst (λ (x : ℕ). isDigit x ≡ true) k (digit-test h)
 
-pub digit-some : {s : List ℕ} → Begins-digit s → s ≢ []
+pub digit-some : {s : List ℕ} → BeginsDigit s → s ≢ []
 digit-some (form.begins-digit h) = λ e. let z : _≡_ {A = ℕ} 0 1 = cc in omega arith
 
 -- a string names a node or not
 abbrev pub Named : Parsed → List ℕ → Type 0
 Named p s = (p ≡ NoNode) ⊎ ((n : ℕ) × For s n)
 
-two-by : (d b c : ℕ) (s : List ℕ) (t : Bool) → is-digit c ≡ t → Digit d b → (n : ℕ) × For (byte "N" ∷ b ∷ c ∷ s) n
+two-by : (d b c : ℕ) (s : List ℕ) (t : Bool) → isDigit c ≡ t → Digit d b → (n : ℕ) × For (byte "N" ∷ b ∷ c ∷ s) n
 two-by d b c s true e h =
     (10 * d + (c - byte "0"), record { part = byte "N" ∷ b ∷ c ∷ []; rest = s; whole = refl; address = form.two-digits h (digit-of c e) })
 two-by d b c s false e h =
@@ -219,19 +219,19 @@ two-by d b c s false e h =
 
 pub two-for : (d b : ℕ) (s : List ℕ) → Digit d b → (n : ℕ) × For (byte "N" ∷ b ∷ s) n
 two-for d b [] h = (d, record { part = byte "N" ∷ b ∷ []; rest = []; whole = refl; address = form.one-digit h (λ g. digit-some g refl) })
-two-for d b (c ∷ s) h = two-by d b c s (is-digit c) refl h
+two-for d b (c ∷ s) h = two-by d b c s (isDigit c) refl h
 
-first-by : (b : ℕ) (s : List ℕ) (t : Bool) → is-digit b ≡ t → Named (cond t (second-digit (b - byte "0") s) NoNode) (byte "N" ∷ b ∷ s)
+first-by : (b : ℕ) (s : List ℕ) (t : Bool) → isDigit b ≡ t → Named (cond t (secondDigit (b - byte "0") s) NoNode) (byte "N" ∷ b ∷ s)
 first-by b s true e = inr (two-for (b - byte "0") b s (digit-of b e))
 first-by b s false e = inl refl
 
-first-found : (s : List ℕ) → Named (first-digit s) (byte "N" ∷ s)
-unfolding first-digit
+first-found : (s : List ℕ) → Named (firstDigit s) (byte "N" ∷ s)
+unfolding firstDigit
 first-found [] = inl refl
-first-found (b ∷ s) = first-by b s (is-digit b) refl
+first-found (b ∷ s) = first-by b s (isDigit b) refl
 
-parse-by : (b : ℕ) (s : List ℕ) (t : Bool) → eqb b (byte "N") ≡ t → Named (cond t (first-digit s) (To 0 (body (b ∷ s)))) (b ∷ s)
-parse-by b s true e = subst (λ (x : ℕ). Named (first-digit s) (x ∷ s)) (sym (eqb-true b (byte "N") e)) (first-found s)
+parse-by : (b : ℕ) (s : List ℕ) (t : Bool) → eqb b (byte "N") ≡ t → Named (cond t (firstDigit s) (To 0 (body (b ∷ s)))) (b ∷ s)
+parse-by b s true e = subst (λ (x : ℕ). Named (firstDigit s) (x ∷ s)) (sym (eqb-true b (byte "N") e)) (first-found s)
 parse-by b s false e =
     inr (0, record { part = []; rest = b ∷ s; whole = refl; address = form.no-n (λ g. eqb-false b (byte "N") e (n-first g b s refl)) })
 

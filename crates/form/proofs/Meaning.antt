@@ -9,17 +9,17 @@ use native.Mathlib.Omega.{arith}
 use borrow.Author.Tests.{eqb-true, eqb-false}
 use lib.Dec.{eqb}
 use Rattle.register.specs.Bytes.{byte}
-use Rattle.register.proofs.Ranges.{never}
-use Rattle.command.specs.Number.{is-digit}
-use Rattle.command.specs.Parse.{body, first-digit, parse}
-use Rattle.command.specs.Addressed.{addressed, node-of}
+use Rattle.exact.proofs.Z.{never}
+use Rattle.command.specs.Number.{isDigit}
+use Rattle.command.specs.Parse.{body, firstDigit, parse}
+use Rattle.command.specs.Addressed.{addressed, parsedNode}
 use Rattle.command.proofs.Addressed.{parsed-node}
 use Rattle.command.specs.declared.Asked.{Asked}
 use Rattle.command.specs.declared.Asked.the-variants.{BadForm}
 use Rattle.command.specs.declared.Parsed.{Parsed}
 use Rattle.command.specs.declared.Parsed.the-variants.{NoNode, To}
 use Rattle.form.specs.Grammar as form
-use Rattle.form.specs.Grammar.{Begins-N, Begins-digit, Address, Body, For, Says, No-digit}
+use Rattle.form.specs.Grammar.{BeginsN, BeginsDigit, Address, Body, For, Says, NoDigit}
 use Rattle.form.specs.Understood.{Silent}
 use Rattle.form.proofs.Said.{digit-of, body-said, address-said}
 use Rattle.form.proofs.Found.{Judged, Named, body-found, address-found, n-first, n-some, digit-first, two-for}
@@ -91,74 +91,74 @@ bad-form s n = (
 
 -- ── no node ──
 
-first-none-by : (b : ℕ) (s : List ℕ) (t : Bool) → is-digit b ≡ t → (Begins-digit (b ∷ s) → ⊥) → first-digit (b ∷ s) ≡ NoNode
-unfolding first-digit
+first-none-by : (b : ℕ) (s : List ℕ) (t : Bool) → isDigit b ≡ t → (BeginsDigit (b ∷ s) → ⊥) → firstDigit (b ∷ s) ≡ NoNode
+unfolding firstDigit
 first-none-by b s true e h = absurd (h (form.begins-digit (digit-of b e)))
 first-none-by b s false e h = rw e
 
-first-none : (s : List ℕ) → (Begins-digit s → ⊥) → first-digit s ≡ NoNode
-unfolding first-digit
+first-none : (s : List ℕ) → (BeginsDigit s → ⊥) → firstDigit s ≡ NoNode
+unfolding firstDigit
 first-none [] h = refl
-first-none (b ∷ s) h = first-none-by b s (is-digit b) refl h
+first-none (b ∷ s) h = first-none-by b s (isDigit b) refl h
 
-digitless : {s : List ℕ} → No-digit s → parse s ≡ NoNode
+digitless : {s : List ℕ} → NoDigit s → parse s ≡ NoNode
 unfolding parse
 digitless (form.no-digit {s} h) = first-none s h
 
-digit-for : {s : List ℕ} → Begins-digit s → (n : ℕ) × For (byte "N" ∷ s) n
+digit-for : {s : List ℕ} → BeginsDigit s → (n : ℕ) × For (byte "N" ∷ s) n
 digit-for (form.begins-digit {d} {b} {s} h) = two-for d b s h
 
-node-zero : (s : List ℕ) → (Begins-N s → ⊥) → For s 0
+node-zero : (s : List ℕ) → (BeginsN s → ⊥) → For s 0
 node-zero s h = record { part = []; rest = s; whole = refl; address = form.no-n h }
 
-alone-by : (b : ℕ) (s : List ℕ) (t : Bool) → eqb b (byte "N") ≡ t → ((n : ℕ) → For (b ∷ s) n → ⊥) → No-digit (b ∷ s)
+alone-by : (b : ℕ) (s : List ℕ) (t : Bool) → eqb b (byte "N") ≡ t → ((n : ℕ) → For (b ∷ s) n → ⊥) → NoDigit (b ∷ s)
 alone-by b s true e h =
     let k = eqb-true b (byte "N") e in
-    subst (λ (x : ℕ). No-digit (x ∷ s)) (sym k)
+    subst (λ (x : ℕ). NoDigit (x ∷ s)) (sym k)
     (form.no-digit (λ g. let q = digit-for g in h (q .0) (subst (λ (x : ℕ). For (x ∷ s) (q .0)) (sym k) (q .1))))
 alone-by b s false e h = absurd (h 0 (node-zero (b ∷ s) (λ g. eqb-false b (byte "N") e (n-first g b s refl))))
 
-alone : (s : List ℕ) → ((n : ℕ) → For s n → ⊥) → No-digit s
+alone : (s : List ℕ) → ((n : ℕ) → For s n → ⊥) → NoDigit s
 alone [] h = absurd (h 0 (node-zero [] (λ g. n-some g refl)))
 alone (b ∷ s) h = alone-by b s (eqb b (byte "N")) refl h
 
-pub nobody : (s : List ℕ) → No-digit s ↔ ((n : ℕ) → For s n → ⊥)
+pub nobody : (s : List ℕ) → NoDigit s ↔ ((n : ℕ) → For s n → ⊥)
 nobody s = (λ g n f. apart (for-parse f) (digitless g), alone s)
 
-pub no-node : (s : List ℕ) → (parse s ≡ NoNode) ↔ No-digit s
+pub no-node : (s : List ℕ) → (parse s ≡ NoNode) ↔ NoDigit s
 no-node s = (λ e. alone s (λ n f. apart (for-parse f) e), λ g. digitless g)
 
 -- ── no choice ──
 
-not-first : (b : ℕ) (s : List ℕ) → b ≢ byte "N" → is-digit b ≡ false → (Begins-N (b ∷ s) → ⊥) × (Begins-digit (b ∷ s) → ⊥)
+not-first : (b : ℕ) (s : List ℕ) → b ≢ byte "N" → isDigit b ≡ false → (BeginsN (b ∷ s) → ⊥) × (BeginsDigit (b ∷ s) → ⊥)
 not-first b s n d = (λ g. n (n-first g b s refl), λ g. never (sym d ∙ digit-first g b s refl))
 
-free : {a : Asked} {s : List ℕ} → Body a s → (Begins-N s → ⊥) × (Begins-digit s → ⊥)
+free : {a : Asked} {s : List ℕ} → Body a s → (BeginsN s → ⊥) × (BeginsDigit s → ⊥)
 free (form.read {l = l} h e) = not-first (byte "T") (l ∷ []) (λ k. omega arith) refl
 free (form.reset {l = l} h e) = not-first (byte "R") (l ∷ []) (λ k. omega arith) refl
 free form.print = not-first (byte "P") [] (λ k. omega arith) refl
 free (form.write {l = l} {s = s} h e j n) = not-first (byte "V") (l ∷ s) (λ k. omega arith) refl
 free (form.status {b} h) = not-first (byte "V") (byte "J" ∷ b ∷ []) (λ k. omega arith) refl
 
-pub no-choice : (s : List ℕ) (a : Asked) → Body a s → (Begins-N s → ⊥) × (Begins-digit s → ⊥)
+pub no-choice : (s : List ℕ) (a : Asked) → Body a s → (BeginsN s → ⊥) × (BeginsDigit s → ⊥)
 no-choice s a b = free b
 
 -- ── which node a string is addressed to ──
 
 addressed-for : (s : List ℕ) (n : ℕ) → addressed s ≡ some n → Named (parse s) s → For s n
 addressed-for s n e (inl k) =
-    let h = sym (ap node-of k) ∙ parsed-node s ∙ e in
+    let h = sym (ap parsedNode k) ∙ parsed-node s ∙ e in
     let z : _≡_ {A = ℕ} 0 1 = cc in absurd (omega arith)
 addressed-for s n e (inr q) =
-    let h = sym (ap node-of (for-parse (q .1))) ∙ parsed-node s ∙ e in
+    let h = sym (ap parsedNode (for-parse (q .1))) ∙ parsed-node s ∙ e in
     let k : q .0 ≡ n = cc in
     subst (For s) k (q .1)
 
 pub addressed-to : (s : List ℕ) (n : ℕ) → (addressed s ≡ some n) ↔ For s n
-addressed-to s n = (λ e. addressed-for s n e (address-found s), λ f. sym (parsed-node s) ∙ ap node-of (for-parse f))
+addressed-to s n = (λ e. addressed-for s n e (address-found s), λ f. sym (parsed-node s) ∙ ap parsedNode (for-parse f))
 
 nowhere : (s : List ℕ) → addressed s ≡ none → (n : ℕ) → For s n → ⊥
 nowhere s e n f = let h = sym (addressed-to s n .1 f) ∙ e in let z : _≡_ {A = ℕ} 0 1 = cc in omega arith
 
-pub addressed-to-none : (s : List ℕ) → (addressed s ≡ none) ↔ No-digit s
-addressed-to-none s = (λ e. alone s (nowhere s e), λ g. sym (parsed-node s) ∙ ap node-of (digitless g))
+pub addressed-to-none : (s : List ℕ) → (addressed s ≡ none) ↔ NoDigit s
+addressed-to-none s = (λ e. alone s (nowhere s e), λ g. sym (parsed-node s) ∙ ap parsedNode (digitless g))

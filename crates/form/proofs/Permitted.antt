@@ -1,6 +1,6 @@
 -- Whatever is found is within what its type may hold, and the test for a V or R says what the form says.
 use mathlib.Core.Path.{_≡_, refl, sym, ap, subst, _∙_}
-use mathlib.Core.Bool.{Bool, true, false, not}
+use mathlib.Core.Bool.{true, not}
 use mathlib.Core.List.{List}
 use mathlib.Core.Logic.{inl, inr, _≢_, _↔_}
 use Prim.Native.Nat.{ℕ, _≤_}
@@ -8,9 +8,10 @@ use native.Mathlib.Omega.{arith}
 use borrow.Author.Tests.{eqb-true, eq-eqb, le-ltb, ltb-false}
 use lib.Dec.{eqb}
 use lib.ListN.{length}
+use Rattle.exact.proofs.Z.{never, both, turned-true}
 use Rattle.register.specs.Bytes.{byte}
-use Rattle.register.specs.Registers.{entry}
-use Rattle.register.proofs.Ranges.{never, both, range}
+use Rattle.register.specs.Registers.{entry, at}
+use Rattle.register.proofs.Ranges.{range}
 use Rattle.register.proofs.Table.{ruled}
 use Rattle.receiver.specs.Receiver.{limit, over}
 use Rattle.command.specs.Parse.{body, parse}
@@ -22,9 +23,9 @@ use Rattle.command.specs.declared.Parsed.the-variants.{NoNode, To}
 use Rattle.form.specs.Grammar as form
 use Rattle.form.specs.Grammar.{Address, Body, Says}
 use Rattle.form.specs.Change as change
-use Rattle.form.specs.Change.{alters, alters-at, V-or-R, Change}
+use Rattle.form.specs.Change.{alters, altersAt, VOrR, Change}
 use Rattle.form.specs.Understood.{Permitted}
-use Rattle.form.proofs.Said.{numeral-said, nine}
+use Rattle.form.proofs.Said.{numeral-said, letter-j}
 use Rattle.form.proofs.Found.{Judged, Named, body-found, address-found}
 use Rattle.form.proofs.Meaning.{same, apart, for-parse, says-parse, asked}
 
@@ -35,11 +36,11 @@ node-99 (form.no-n h) = omega arith
 node-99 (form.one-digit g h) = omega arith
 node-99 (form.two-digits g h) = omega arith
 
-not-nine : (r : ℕ) → r ≤ 9 → r ≢ 9 → r ≤ 8
-not-nine r h n = omega arith
+to-i : (r : ℕ) → r ≤ at "J" → r ≢ at "J" → r ≤ at "I"
+to-i r h n = omega arith
 
 permitted-body : {a : Asked} {s : List ℕ} → Body a s → Permitted a
-permitted-body (form.read h e) = let k = h .listed in omega arith
+permitted-body (form.read h e) = h .listed
 permitted-body (form.reset {r} h e) =
     let t = ruled r (h .listed) in
     let l = range (byte "B") (byte "H") (entry r .letter) (sym (t .reset) ∙ e) in
@@ -51,7 +52,7 @@ permitted-body (form.write {r} {l} {z} {s} h e j n) =
     let v = range (byte "E") (byte "J") (entry r .letter) (sym (t .written) ∙ e) in
     let k = t .letter in
     let d = number-size s z (numeral-said n) in
-    (omega arith, not-nine r (omega arith) (λ i. j (nine h i)), omega arith)
+    (omega arith, to-i r (omega arith) (λ i. j (letter-j h i)), omega arith)
 permitted-body (form.status h) = h
 
 permitted-by : (a : Asked) (s : List ℕ) → Judged a s → Permitted a
@@ -69,14 +70,10 @@ permitted s n a p = permitted-named s n a p (address-found s)
 
 -- ── a V or R ──
 
-not-true : (t : Bool) → not t ≡ true → t ≡ false
-not-true true e = never e
-not-true false e = refl
-
 found : (s : List ℕ) (n : ℕ) (a : Asked) → parse s ≡ To n a → a ≢ BadForm → Says s n a
 found s n a p h = asked s n a .1 (p, h)
 
-alters-says : (s : List ℕ) (n : ℕ) (a : Asked) → parse s ≡ To n a → alters a ≡ true → V-or-R s n
+alters-says : (s : List ℕ) (n : ℕ) (a : Asked) → parse s ≡ To n a → alters a ≡ true → VOrR s n
 alters-says s n (Read r) p e = never e
 alters-says s n Print p e = never e
 alters-says s n (Reset r) p e = change.reset (found s n (Reset r) p (λ k. let z : _≡_ {A = ℕ} 0 1 = cc in omega arith))
@@ -84,13 +81,13 @@ alters-says s n (Write r z) p e = change.write (found s n (Write r z) p (λ k. l
 alters-says s n (Status b) p e = change.status (found s n (Status b) p (λ k. let z : _≡_ {A = ℕ} 0 1 = cc in omega arith))
 alters-says s n BadForm p e = never e
 
-alters-at-says : (s : List ℕ) (n : ℕ) (p : Parsed) → parse s ≡ p → alters-at n p ≡ true → V-or-R s n
+alters-at-says : (s : List ℕ) (n : ℕ) (p : Parsed) → parse s ≡ p → altersAt n p ≡ true → VOrR s n
 alters-at-says s n NoNode k e = never e
 alters-at-says s n (To m a) k e =
     let q = both (eqb m n) (alters a) e in
     alters-says s n a (k ∙ ap (λ (i : ℕ). To i a) (eqb-true m n (q .0))) (q .1)
 
-says-alters : {s : List ℕ} {n : ℕ} → V-or-R s n → alters-at n (parse s) ≡ true
+says-alters : {s : List ℕ} {n : ℕ} → VOrR s n → altersAt n (parse s) ≡ true
 says-alters {n = n} (change.reset h) = rw (says-parse h, eq-eqb n n refl)
 says-alters {n = n} (change.write h) = rw (says-parse h, eq-eqb n n refl)
 says-alters {n = n} (change.status h) = rw (says-parse h, eq-eqb n n refl)
@@ -98,8 +95,8 @@ says-alters {n = n} (change.status h) = rw (says-parse h, eq-eqb n n refl)
 tested : (s : List ℕ) (n : ℕ) → change.change n s ≡ true → Change s n
 unfolding change.change
 tested s n e =
-    let q = both (not (over (length s))) (alters-at n (parse s)) e in
-    record { short = ltb-false limit (length s) (not-true (over (length s)) (q .0)); says = alters-at-says s n (parse s) refl (q .1) }
+    let q = both (not (over (length s))) (altersAt n (parse s)) e in
+    record { short = ltb-false limit (length s) (turned-true (over (length s)) (q .0)); says = alters-at-says s n (parse s) refl (q .1) }
 
 passes : (s : List ℕ) (n : ℕ) → Change s n → change.change n s ≡ true
 unfolding change.change

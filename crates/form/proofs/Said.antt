@@ -8,11 +8,11 @@ use native.Mathlib.Omega.{arith}
 use borrow.Author.Tests.{ne-eqb, le-leb}
 use lib.IntN.{ℤ}
 use Rattle.register.specs.Bytes.{byte}
-use Rattle.register.specs.Registers.{entry, index}
-use Rattle.command.specs.Number.{is-digit, figures, digits, filled, value, last, amount, number, plus}
-use Rattle.command.specs.Parse.{sole, reading, resetting, printing, status, data-of, writing, body, first-digit, second-digit, parse}
+use Rattle.register.specs.Registers.{entry, index, at}
+use Rattle.command.specs.Number.{isDigit, figures, digits, filled, value, last, amount, number, plus}
+use Rattle.command.specs.Parse.{sole, reading, resetting, printing, status, dataOf, writing, body, firstDigit, secondDigit, parse}
 use Rattle.form.specs.Grammar as form
-use Rattle.form.specs.Grammar.{Digit, Begins-N, Begins-digit, Address, Figures, Last-five, Worth, Counts, Numeral, Letter, Body}
+use Rattle.form.specs.Grammar.{Digit, BeginsN, BeginsDigit, Address, Figures, LastFive, Worth, Counts, Numeral, Letter, Body}
 use Rattle.command.specs.declared.Amount.the-variants.{Of}
 use Rattle.command.specs.declared.Number.the-variants.{Is}
 use Rattle.command.specs.declared.Asked.{Asked}
@@ -24,13 +24,13 @@ use Rattle.command.proofs.Digits.{value-more, last-end, last-all}
 
 -- ── digits ──
 
-pub digit-test : {d b : ℕ} → Digit d b → is-digit b ≡ true
+pub digit-test : {d b : ℕ} → Digit d b → isDigit b ≡ true
 digit-test {d} {b} h = in-range (byte "0") (byte "9") b (omega arith) (omega arith)
 
 pub digit-value : {d b : ℕ} → Digit d b → b - byte "0" ≡ d
 digit-value h = omega arith
 
-pub digit-of : (b : ℕ) → is-digit b ≡ true → Digit (b - byte "0") b
+pub digit-of : (b : ℕ) → isDigit b ≡ true → Digit (b - byte "0") b
 digit-of b e = let h = range (byte "0") (byte "9") b e in record { to-nine = omega arith; is = omega arith }
 
 -- ── a V number ──
@@ -46,7 +46,7 @@ filled-some : (ds : List ℕ) → ds ≢ [] → filled ds ≡ true
 filled-some [] h = absurd (h refl)
 filled-some (d ∷ ds) h = refl
 
-last-five-said : {ds fs : List ℕ} → Last-five ds fs → last 5 ds ≡ fs
+last-five-said : {ds fs : List ℕ} → LastFive ds fs → last 5 ds ≡ fs
 last-five-said (form.all {ds} h) = last-all ds h
 last-five-said (form.five before {fs} h) = last-end before fs h
 
@@ -79,9 +79,9 @@ numeral-said (form.minus c) = rw (counts-said c)
 pub index-said : {r l : ℕ} → Letter r l → index l ≡ r
 index-said {r} h = ap index (sym (h .letter)) ∙ letter-index r (h .listed)
 
--- register 9 is J
-pub nine : {r l : ℕ} → Letter r l → r ≡ 9 → l ≡ byte "J"
-nine {r} h e = sym (h .letter) ∙ ruled r (h .listed) .letter ∙ omega arith
+-- the register that takes a byte has the letter J
+pub letter-j : {r l : ℕ} → Letter r l → r ≡ at "J" → l ≡ byte "J"
+letter-j {r} h e = sym (h .letter) ∙ ruled r (h .listed) .letter ∙ omega arith
 
 read-said : {r l : ℕ} → Letter r l → entry r .read ≡ true → reading (l ∷ []) ≡ Read r
 unfolding reading sole
@@ -92,11 +92,11 @@ unfolding resetting sole
 reset-said h e = rw (index-said h, e)
 
 write-said : {r l : ℕ} {z : ℤ} {s : List ℕ} → Letter r l → entry r .written ≡ true → l ≢ byte "J" → Numeral z s → writing (l ∷ s) ≡ Write r z
-unfolding writing data-of
-write-said {r} h e j n = rw (index-said h, e, ne-eqb r 9 (λ i. j (nine h i)), numeral-said n)
+unfolding writing dataOf
+write-said {r} h e j n = rw (index-said h, e, ne-eqb r (at "J") (λ i. j (letter-j h i)), numeral-said n)
 
 status-said : {b : ℕ} → b ≤ 127 → writing (byte "J" ∷ b ∷ []) ≡ Status b
-unfolding writing data-of status index entry
+unfolding writing dataOf status index entry
 status-said {b} h = rw (le-leb b 127 h)
 
 pub body-said : {a : Asked} {s : List ℕ} → Body a s → body s ≡ a
@@ -109,23 +109,23 @@ body-said (form.status h) = status-said h
 
 -- ── the address, read as it stands ──
 
-no-n-said : (rest : List ℕ) → (Begins-N rest → ⊥) → parse rest ≡ To 0 (body rest)
+no-n-said : (rest : List ℕ) → (BeginsN rest → ⊥) → parse rest ≡ To 0 (body rest)
 unfolding parse body
 no-n-said [] h = refl
-no-n-said (b ∷ s) h = rw (ne-eqb b (byte "N") (λ e. h (subst (λ (x : ℕ). Begins-N (x ∷ s)) (sym e) form.begins-n)))
+no-n-said (b ∷ s) h = rw (ne-eqb b (byte "N") (λ e. h (subst (λ (x : ℕ). BeginsN (x ∷ s)) (sym e) form.begins-n)))
 
-second-by : (d b : ℕ) (s : List ℕ) (t : Bool) → is-digit b ≡ t → (Begins-digit (b ∷ s) → ⊥) → second-digit d (b ∷ s) ≡ To d (body (b ∷ s))
-unfolding second-digit
+second-by : (d b : ℕ) (s : List ℕ) (t : Bool) → isDigit b ≡ t → (BeginsDigit (b ∷ s) → ⊥) → secondDigit d (b ∷ s) ≡ To d (body (b ∷ s))
+unfolding secondDigit
 second-by d b s true e h = absurd (h (form.begins-digit (digit-of b e)))
 second-by d b s false e h = rw e
 
-one-said : (d : ℕ) (rest : List ℕ) → (Begins-digit rest → ⊥) → second-digit d rest ≡ To d (body rest)
-unfolding second-digit body
+one-said : (d : ℕ) (rest : List ℕ) → (BeginsDigit rest → ⊥) → secondDigit d rest ≡ To d (body rest)
+unfolding secondDigit body
 one-said d [] h = refl
-one-said d (b ∷ s) h = second-by d b s (is-digit b) refl h
+one-said d (b ∷ s) h = second-by d b s (isDigit b) refl h
 
 pub address-said : {n : ℕ} {part rest : List ℕ} → Address n part rest → parse (part ++ rest) ≡ To n (body rest)
-unfolding parse first-digit second-digit
+unfolding parse firstDigit secondDigit
 address-said (form.no-n {rest} h) = no-n-said rest h
 address-said (form.one-digit {d} {b} {rest} g h) = rw (digit-test g, digit-value g) (one-said d rest h)
 address-said (form.two-digits g h) = rw (digit-test g, digit-test h, digit-value g, digit-value h)

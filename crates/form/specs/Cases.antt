@@ -5,6 +5,7 @@ use mathlib.Core.Path.{_≡_}
 use mathlib.Core.List.{List, [], _∷_, _++_, map}
 use lib.IntN.{pos, negsuc}
 use Rattle.register.specs.Bytes.{ascii}
+use Rattle.register.specs.Registers.{at}
 use Rattle.command.specs.Parse.{parse}
 use Rattle.command.specs.declared.Asked.the-variants.{Read, Print, Reset, Write, Status, BadForm}
 use Rattle.command.specs.declared.Parsed.{Parsed}
@@ -18,23 +19,23 @@ pub record Case : Type 0 where
 abbrev asks : String → Parsed → Case
 asks t p = record { string = ascii t; asked = p }
 
-abbrev asks-byte : String → ℕ → Parsed → Case
-asks-byte t b p = record { string = ascii t ++ b ∷ []; asked = p }
+abbrev asksByte : String → ℕ → Parsed → Case
+asksByte t b p = record { string = ascii t ++ b ∷ []; asked = p }
 
 abbrev pub cases : List Case
 cases =
     -- the examples of document 002
-    asks "N17VE350" (To 17 (Write 4 (pos 350)))
-    ∷ asks "N5TA" (To 5 (Read 0))
-    ∷ asks "RH" (To 0 (Reset 7))
+    asks "N17VE350" (To 17 (Write (at "E") (pos 350)))
+    ∷ asks "N5TA" (To 5 (Read (at "A")))
+    ∷ asks "RH" (To 0 (Reset (at "H")))
     ∷ asks "VJ0" (To 0 (Status 0x30))
     ∷ asks "VJ5" (To 0 (Status 0x35))
     ∷ asks "VJ@" (To 0 (Status 0x40))
-    ∷ asks "VI4095" (To 0 (Write 8 (pos 4_095)))
-    ∷ asks "VI0" (To 0 (Write 8 (pos 0)))
+    ∷ asks "VI4095" (To 0 (Write (at "I") (pos 4_095)))
+    ∷ asks "VI0" (To 0 (Write (at "I") (pos 0)))
     -- no N means node 0, whatever else stands there
     ∷ asks "" (To 0 BadForm)
-    ∷ asks "TA" (To 0 (Read 0))
+    ∷ asks "TA" (To 0 (Read (at "A")))
     ∷ asks "P" (To 0 Print)
     ∷ asks "HELLO" (To 0 BadForm)
     ∷ asks "5TA" (To 0 BadForm)
@@ -46,10 +47,11 @@ cases =
     ∷ asks "NN5TA" NoNode
     ∷ asks "N 5TA" NoNode
     -- one or two digits, as many as stand there, and no more than two
-    ∷ asks "N05TJ" (To 5 (Read 9))
+    ∷ asks "N05TJ" (To 5 (Read (at "J")))
     ∷ asks "N0P" (To 0 Print)
-    ∷ asks "N00TA" (To 0 (Read 0))
-    ∷ asks "N99RB" (To 99 (Reset 1))
+    ∷ asks "N00P" (To 0 Print)
+    ∷ asks "N00TA" (To 0 (Read (at "A")))
+    ∷ asks "N99RB" (To 99 (Reset (at "B")))
     ∷ asks "N123TA" (To 12 BadForm)
     ∷ asks "N005TA" (To 0 BadForm)
     ∷ asks "N5" (To 5 BadForm)
@@ -57,18 +59,21 @@ cases =
     ∷ asks "N5N5TA" (To 5 BadForm)
     ∷ asks "N5 TA" (To 5 BadForm)
     -- registers that a command takes, and that it does not
-    ∷ asks "TJ" (To 0 (Read 9))
+    ∷ asks "TJ" (To 0 (Read (at "J")))
+    ∷ asks "TC" (To 0 (Read (at "C")))
+    ∷ asks "TD" (To 0 (Read (at "D")))
     ∷ asks "TK" (To 0 BadForm)
     ∷ asks "T@" (To 0 BadForm)
-    ∷ asks "RB" (To 0 (Reset 1))
+    ∷ asks "RB" (To 0 (Reset (at "B")))
     ∷ asks "RA" (To 0 BadForm)
     ∷ asks "RI" (To 0 BadForm)
     ∷ asks "RJ" (To 0 BadForm)
     ∷ asks "VD1" (To 0 BadForm)
     ∷ asks "VA1" (To 0 BadForm)
-    ∷ asks "VH1" (To 0 (Write 7 (pos 1)))
+    ∷ asks "VH1" (To 0 (Write (at "H") (pos 1)))
     ∷ asks "VK1" (To 0 BadForm)
     -- a byte too many or too few, lower case, spaces, the eighth bit
+    ∷ asks "A" (To 0 BadForm)
     ∷ asks "T" (To 0 BadForm)
     ∷ asks "R" (To 0 BadForm)
     ∷ asks "V" (To 0 BadForm)
@@ -82,24 +87,24 @@ cases =
     ∷ asks "p" (To 0 BadForm)
     ∷ asks "T A" (To 0 BadForm)
     ∷ asks "TA " (To 0 BadForm)
-    ∷ asks-byte "" 0xD4 (To 0 BadForm)
-    ∷ asks-byte "T" 0xC1 (To 0 BadForm)
+    ∷ asksByte "" 0xD4 (To 0 BadForm)
+    ∷ asksByte "T" 0xC1 (To 0 BadForm)
     -- numbers
-    ∷ asks "VE123456" (To 0 (Write 4 (pos 23_456)))
-    ∷ asks "VE-120000" (To 0 (Write 4 (negsuc 19_999)))
-    ∷ asks "VE123456789012345678901234567890" (To 0 (Write 4 (pos 67_890)))
-    ∷ asks "VE1.2.3" (To 0 (Write 4 (pos 123)))
-    ∷ asks "VE-.5" (To 0 (Write 4 (negsuc 4)))
-    ∷ asks "VE..7" (To 0 (Write 4 (pos 7)))
-    ∷ asks "VE7." (To 0 (Write 4 (pos 7)))
-    ∷ asks "VE00042" (To 0 (Write 4 (pos 42)))
-    ∷ asks "VE-0" (To 0 (Write 4 (pos 0)))
-    ∷ asks "VE-100000" (To 0 (Write 4 (pos 0)))
-    ∷ asks "VI5000" (To 0 (Write 8 (pos 5_000)))
-    ∷ asks "VI5" (To 0 (Write 8 (pos 5)))
-    ∷ asks "VI-0" (To 0 (Write 8 (pos 0)))
-    ∷ asks "VI-1" (To 0 (Write 8 (negsuc 0)))
-    ∷ asks "VI100000" (To 0 (Write 8 (pos 0)))
+    ∷ asks "VE123456" (To 0 (Write (at "E") (pos 23_456)))
+    ∷ asks "VE-120000" (To 0 (Write (at "E") (negsuc 19_999)))
+    ∷ asks "VE123456789012345678901234567890" (To 0 (Write (at "E") (pos 67_890)))
+    ∷ asks "VE1.2.3" (To 0 (Write (at "E") (pos 123)))
+    ∷ asks "VE-.5" (To 0 (Write (at "E") (negsuc 4)))
+    ∷ asks "VE..7" (To 0 (Write (at "E") (pos 7)))
+    ∷ asks "VE7." (To 0 (Write (at "E") (pos 7)))
+    ∷ asks "VE00042" (To 0 (Write (at "E") (pos 42)))
+    ∷ asks "VE-0" (To 0 (Write (at "E") (pos 0)))
+    ∷ asks "VE-100000" (To 0 (Write (at "E") (pos 0)))
+    ∷ asks "VI5000" (To 0 (Write (at "I") (pos 5_000)))
+    ∷ asks "VI5" (To 0 (Write (at "I") (pos 5)))
+    ∷ asks "VI-0" (To 0 (Write (at "I") (pos 0)))
+    ∷ asks "VI-1" (To 0 (Write (at "I") (negsuc 0)))
+    ∷ asks "VI100000" (To 0 (Write (at "I") (pos 0)))
     -- and what is none
     ∷ asks "VE" (To 0 BadForm)
     ∷ asks "VE-" (To 0 BadForm)
@@ -117,10 +122,10 @@ cases =
     ∷ asks "VJ-" (To 0 (Status 0x2D))
     ∷ asks "VJN" (To 0 (Status 0x4E))
     ∷ asks "VJ " (To 0 (Status 0x20))
-    ∷ asks-byte "VJ" 0 (To 0 (Status 0))
-    ∷ asks-byte "VJ" 127 (To 0 (Status 127))
-    ∷ asks-byte "VJ" 128 (To 0 BadForm)
-    ∷ asks-byte "VJ" 255 (To 0 BadForm)
+    ∷ asksByte "VJ" 0 (To 0 (Status 0))
+    ∷ asksByte "VJ" 127 (To 0 (Status 127))
+    ∷ asksByte "VJ" 128 (To 0 BadForm)
+    ∷ asksByte "VJ" 255 (To 0 BadForm)
     ∷ asks "VJ" (To 0 BadForm)
     ∷ asks "VJ55" (To 0 BadForm)
     ∷ []

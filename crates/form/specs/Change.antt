@@ -22,20 +22,20 @@ alters (Write r z) = true
 alters (Status b) = true
 alters BadForm = false
 
-abbrev pub alters-at : ℕ → Parsed → Bool
-alters-at n NoNode = false
-alters-at n (To m a) = eqb m n && alters a
+abbrev pub altersAt : ℕ → Parsed → Bool
+altersAt n NoNode = false
+altersAt n (To m a) = eqb m n && alters a
 
 -- whether s is a well-formed V or R to node n: at most 32 bytes before its end, and no bad form
 unfoldable pub change : ℕ → List ℕ → Bool
-change n s = not (over (length s)) && alters-at n (parse s)
+change n s = not (over (length s)) && altersAt n (parse s)
 
 -- the same by the form of s
-pub data V-or-R : List ℕ → ℕ → Type 0 where
-  reset : {s : List ℕ} {n r : ℕ} → Says s n (Reset r) → V-or-R s n
-  write : {s : List ℕ} {n r : ℕ} {z : ℤ} → Says s n (Write r z) → V-or-R s n
-  status : {s : List ℕ} {n b : ℕ} → Says s n (Status b) → V-or-R s n
+pub data VOrR : List ℕ → ℕ → Type 0 where
+  reset : {s : List ℕ} {n r : ℕ} → Says s n (Reset r) → VOrR s n
+  write : {s : List ℕ} {n r : ℕ} {z : ℤ} → Says s n (Write r z) → VOrR s n
+  status : {s : List ℕ} {n b : ℕ} → Says s n (Status b) → VOrR s n
 
 pub record Change (s : List ℕ) (n : ℕ) : Type 0 where
   pub short : length s ≤ limit
-  pub says : V-or-R s n
+  pub says : VOrR s n

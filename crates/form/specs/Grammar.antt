@@ -8,7 +8,7 @@ use mathlib.Core.List.{List, [], _∷_, _++_}
 use lib.IntN.{ℤ, pos, negℤ}
 use lib.ListN.{length}
 use Rattle.register.specs.Bytes.{byte}
-use Rattle.register.specs.Registers.{entry}
+use Rattle.register.specs.Registers.{entry, count}
 use Rattle.command.specs.declared.Asked.{Asked}
 use Rattle.command.specs.declared.Asked.the-variants.{Read, Print, Reset, Write, Status}
 
@@ -20,16 +20,16 @@ pub record Digit (d b : ℕ) : Type 0 where
 -- ── the address ──
 
 -- a string begins with N; a string begins with a digit
-pub data Begins-N : List ℕ → Type 0 where
-  begins-n : {s : List ℕ} → Begins-N (byte "N" ∷ s)
+pub data BeginsN : List ℕ → Type 0 where
+  begins-n : {s : List ℕ} → BeginsN (byte "N" ∷ s)
 
-pub data Begins-digit : List ℕ → Type 0 where
-  begins-digit : {d b : ℕ} {s : List ℕ} → Digit d b → Begins-digit (b ∷ s)
+pub data BeginsDigit : List ℕ → Type 0 where
+  begins-digit : {d b : ℕ} {s : List ℕ} → Digit d b → BeginsDigit (b ∷ s)
 
 -- `Address n part rest`: part, with rest behind it, is an address of node n. N with one or two digits, as many as stand there; no N means node 0
 pub data Address : ℕ → List ℕ → List ℕ → Type 0 where
-  no-n : {rest : List ℕ} → (Begins-N rest → ⊥) → Address 0 [] rest
-  one-digit : {d b : ℕ} {rest : List ℕ} → Digit d b → (Begins-digit rest → ⊥) → Address d (byte "N" ∷ b ∷ []) rest
+  no-n : {rest : List ℕ} → (BeginsN rest → ⊥) → Address 0 [] rest
+  one-digit : {d b : ℕ} {rest : List ℕ} → Digit d b → (BeginsDigit rest → ⊥) → Address d (byte "N" ∷ b ∷ []) rest
   two-digits : {d e b c : ℕ} {rest : List ℕ} → Digit d b → Digit e c → Address (10 * d + e) (byte "N" ∷ b ∷ c ∷ []) rest
 
 -- ── a V number ──
@@ -40,10 +40,10 @@ pub data Figures : List ℕ → List ℕ → Type 0 where
   point : {ds s : List ℕ} → Figures ds s → Figures ds (byte "." ∷ s)
   digit : {d b : ℕ} {ds s : List ℕ} → Digit d b → Figures ds s → Figures (d ∷ ds) (b ∷ s)
 
--- `Last-five ds fs`: fs are the last five of the digits ds, all of them where they are no more
-pub data Last-five : List ℕ → List ℕ → Type 0 where
-  all : {ds : List ℕ} → length ds ≤ 5 → Last-five ds ds
-  five : (before : List ℕ) {fs : List ℕ} → length fs ≡ 5 → Last-five (before ++ fs) fs
+-- `LastFive ds fs`: fs are the last five of the digits ds, all of them where they are no more
+pub data LastFive : List ℕ → List ℕ → Type 0 where
+  all : {ds : List ℕ} → length ds ≤ 5 → LastFive ds ds
+  five : (before : List ℕ) {fs : List ℕ} → length fs ≡ 5 → LastFive (before ++ fs) fs
 
 -- `Worth n ds`: digits ds are the decimal number n; one digit more makes ten times as much and that digit
 pub data Worth : ℕ → List ℕ → Type 0 where
@@ -52,7 +52,7 @@ pub data Worth : ℕ → List ℕ → Type 0 where
 
 -- digits and points, at least one digit, and the last five count
 pub data Counts : ℕ → List ℕ → Type 0 where
-  counts : {n : ℕ} {ds fs s : List ℕ} → Figures ds s → ds ≢ [] → Last-five ds fs → Worth n fs → Counts n s
+  counts : {n : ℕ} {ds fs s : List ℕ} → Figures ds s → ds ≢ [] → LastFive ds fs → Worth n fs → Counts n s
 
 -- `Numeral z s`: s is the number z, with an optional leading minus
 pub data Numeral : ℤ → List ℕ → Type 0 where
@@ -63,7 +63,7 @@ pub data Numeral : ℤ → List ℕ → Type 0 where
 
 -- l is the letter of register r of the list
 pub record Letter (r l : ℕ) : Type 0 where
-  pub listed : r < 10
+  pub listed : r < count
   pub letter : entry r .letter ≡ l
 
 -- `Body a s`: s asks a. T, R and V take the registers that the list permits them, P takes none; only V has data, J's is one byte of 0 to 127
@@ -89,5 +89,5 @@ pub record Says (s : List ℕ) (n : ℕ) (a : Asked) : Type 0 where
   pub body : Body a (to .rest)
 
 -- N stands first, and no digit behind it: s is for no node
-pub data No-digit : List ℕ → Type 0 where
-  no-digit : {s : List ℕ} → (Begins-digit s → ⊥) → No-digit (byte "N" ∷ s)
+pub data NoDigit : List ℕ → Type 0 where
+  no-digit : {s : List ℕ} → (BeginsDigit s → ⊥) → NoDigit (byte "N" ∷ s)

@@ -1,17 +1,18 @@
 -- What is claimed: the parser and the form agree on every string, and no string says two things.
-use Prim.Native.Nat.{ℕ, _≤_}
+use Prim.Native.Nat.{ℕ, _≤_, _<_}
 use mathlib.Core.Path.{_≡_}
 use mathlib.Core.Bool.{true}
 use mathlib.Core.List.{List}
 use mathlib.Core.Logic.{_≢_, _↔_}
 use mathlib.Core.Option.{none, some}
 use lib.IntN.{natAbs}
+use Rattle.register.specs.Registers.{count, at}
 use Rattle.command.specs.Parse.{parse}
 use Rattle.command.specs.Addressed.{addressed}
 use Rattle.command.specs.declared.Asked.{Asked}
 use Rattle.command.specs.declared.Asked.the-variants.{Read, Print, Reset, Write, Status, BadForm}
 use Rattle.command.specs.declared.Parsed.the-variants.{NoNode, To}
-use Rattle.form.specs.Grammar.{Begins-N, Begins-digit, Body, For, Says, No-digit}
+use Rattle.form.specs.Grammar.{BeginsN, BeginsDigit, Body, For, Says, NoDigit}
 use Rattle.form.specs.Change.{change, Change}
 
 -- s asks nothing of node n
@@ -20,10 +21,10 @@ Silent s n = (a : Asked) → Says s n a → ⊥
 
 -- what a string can ask: registers that their command takes, a number of five digits, a byte of seven bits
 abbrev pub Permitted : Asked → Type 0
-Permitted (Read r) = r ≤ 9
+Permitted (Read r) = r < count
 Permitted Print = Unit
-Permitted (Reset r) = (1 ≤ r) × (r ≤ 7)
-Permitted (Write r z) = (4 ≤ r) × (r ≤ 8) × (natAbs z ≤ 99_999)
+Permitted (Reset r) = (at "B" ≤ r) × (r ≤ at "H")
+Permitted (Write r z) = (at "E" ≤ r) × (r ≤ at "I") × (natAbs z ≤ 99_999)
 Permitted (Status b) = b ≤ 127
 Permitted BadForm = Unit
 
@@ -33,16 +34,16 @@ pub record Understood : Type 0 where
   -- and bad form for a node exactly where the string is for that node and asks nothing of it
   pub bad-form : (s : List ℕ) (n : ℕ) → (parse s ≡ To n BadForm) ↔ (For s n × Silent s n)
   -- and no node exactly where N has no digit, which is where the string is for no node at all
-  pub no-node : (s : List ℕ) → (parse s ≡ NoNode) ↔ No-digit s
-  pub nobody : (s : List ℕ) → No-digit s ↔ ((n : ℕ) → For s n → ⊥)
+  pub no-node : (s : List ℕ) → (parse s ≡ NoNode) ↔ NoDigit s
+  pub nobody : (s : List ℕ) → NoDigit s ↔ ((n : ℕ) → For s n → ⊥)
   -- a string is for one node at most, and says one thing at most
   pub one-node : (s : List ℕ) (m n : ℕ) → For s m → For s n → m ≡ n
   pub one-meaning : (s : List ℕ) (m n : ℕ) (a b : Asked) → Says s m a → Says s n b → (m ≡ n) × (a ≡ b)
   -- how much of a string is its address is no choice where it asks something: no command begins with N or with a digit
-  pub no-choice : (s : List ℕ) (a : Asked) → Body a s → (Begins-N s → ⊥) × (Begins-digit s → ⊥)
+  pub no-choice : (s : List ℕ) (a : Asked) → Body a s → (BeginsN s → ⊥) × (BeginsDigit s → ⊥)
   -- which node a string is addressed to, its form bad or not
   pub addressed-to : (s : List ℕ) (n : ℕ) → (addressed s ≡ some n) ↔ For s n
-  pub addressed-to-none : (s : List ℕ) → (addressed s ≡ none) ↔ No-digit s
+  pub addressed-to-none : (s : List ℕ) → (addressed s ≡ none) ↔ NoDigit s
   -- the test for a well-formed V or R to node n holds exactly where the form says so
   pub changes : (s : List ℕ) (n : ℕ) → (change n s ≡ true) ↔ Change s n
   -- whatever is found is within what its type may hold

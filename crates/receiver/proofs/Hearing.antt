@@ -5,12 +5,11 @@ use mathlib.Core.List.{List, [], _∷_, _++_}
 use Prim.Native.Nat.{ℕ, suc, _+_, _≤_, _<_}
 use native.Mathlib.Omega.{arith}
 use native.Mathlib.Numerals.{add-one}
-use lib.Dec.{ltb, eqb}
+use lib.Dec.{ltb}
 use lib.ListN.{length, take, set, length-append, length-set}
 use lib.Seq.{length-take-le, take-suc-set}
 use borrow.Author.Tests.{lt-ltb, le-ltb, ltb-true, ltb-false}
-use Rattle.register.specs.Bytes.{byte}
-use Rattle.receiver.specs.Receiver.{Heard, bytes, too-long, limit, over, kind, store, emptied, taken, next, heard}
+use Rattle.receiver.specs.Receiver.{Heard, bytes, too-long, limit, over, ends, drops, kind, store, emptied, taken, next, heard}
 use Rattle.receiver.specs.Since.{ending, since, hearing, after}
 use Rattle.receiver.specs.declared.Receiver.{Receiver}
 use Rattle.receiver.specs.declared.Kind.{Kind}
@@ -32,27 +31,27 @@ one-more s b = rw (length-append, add-one)
 
 -- ── a receiver ──
 
-stored-room : (l : List ℕ) (n b : ℕ) → length l ≡ 32 → n < 32
+stored-room : (l : List ℕ) (n b : ℕ) → length l ≡ limit → n < limit
     → cond (over (n + 1)) too-long (bytes (take (n + 1) (set l n b))) ≡ more (cond (over n) too-long (bytes (take n l))) b
 stored-room l n b e h =
     let i : n < length l = omega arith in
     let k : length (take n l) ≡ n = length-take-le _ _ (omega arith) in
-    rw (le-ltb 32 n (omega arith), one-more (take n l) b, k, add-one, take-suc-set l n b i)
+    rw (le-ltb limit n (omega arith), one-more (take n l) b, k, add-one, take-suc-set l n b i)
 
-stored-full : (l : List ℕ) (n b : ℕ) → length l ≡ 32 → 32 ≤ n → (t : Bool) → over n ≡ t → too-long ≡ more (cond t too-long (bytes (take n l))) b
+stored-full : (l : List ℕ) (n b : ℕ) → length l ≡ limit → limit ≤ n → (t : Bool) → over n ≡ t → too-long ≡ more (cond t too-long (bytes (take n l))) b
 stored-full l n b e h true p = refl
 stored-full l n b e h false p =
-    let i : n ≤ 32 = ltb-false _ _ p in
+    let i : n ≤ limit = ltb-false _ _ p in
     let k : length (take n l) ≡ n = length-take-le _ _ (omega arith) in
-    rw (one-more (take n l) b, k, lt-ltb 32 (suc n) (omega arith))
+    rw (one-more (take n l) b, k, lt-ltb limit (suc n) (omega arith))
 
-stored-by : (r : Receiver) (b : ℕ) → length (r .bytes) ≡ 32 → (t : Bool) → ltb (r .length) limit ≡ t
-    → heard (cond t (record { bytes = set (r .bytes) (r .length) b; length = r .length + 1 }) (record { bytes = r .bytes; length = 33 })) ≡ more (heard r) b
+stored-by : (r : Receiver) (b : ℕ) → length (r .bytes) ≡ limit → (t : Bool) → ltb (r .length) limit ≡ t
+    → heard (cond t (record { bytes = set (r .bytes) (r .length) b; length = r .length + 1 }) (record { bytes = r .bytes; length = limit + 1 })) ≡ more (heard r) b
 unfolding heard
 stored-by r b e true p = stored-room (r .bytes) (r .length) b e (ltb-true _ _ p)
 stored-by r b e false p = stored-full (r .bytes) (r .length) b e (ltb-false _ _ p) (over (r .length)) refl
 
-stored-heard : (r : Receiver) (b : ℕ) → length (r .bytes) ≡ 32 → heard (store r b) ≡ more (heard r) b
+stored-heard : (r : Receiver) (b : ℕ) → length (r .bytes) ≡ limit → heard (store r b) ≡ more (heard r) b
 unfolding store
 stored-heard r b e = stored-by r b e (ltb (r .length) limit) refl
 
@@ -60,18 +59,18 @@ pub emptied-heard : (r : Receiver) → heard (emptied r) ≡ bytes []
 unfolding heard
 emptied-heard r = refl
 
-taken-heard : (k : Kind) (r : Receiver) (b : ℕ) → length (r .bytes) ≡ 32 → heard (taken k r b) ≡ onward k (heard r) b
+taken-heard : (k : Kind) (r : Receiver) (b : ℕ) → length (r .bytes) ≡ limit → heard (taken k r b) ≡ onward k (heard r) b
 taken-heard End r b e = emptied-heard r
 taken-heard Drop r b e = emptied-heard r
 taken-heard Part r b e = stored-heard r b e
 
-pub next-heard : (r : Receiver) (b : ℕ) → length (r .bytes) ≡ 32 → heard (next r b) ≡ onward (kind b) (heard r) b
+pub next-heard : (r : Receiver) (b : ℕ) → length (r .bytes) ≡ limit → heard (next r b) ≡ onward (kind b) (heard r) b
 next-heard r b e = taken-heard (kind b) r b e
 
 -- ── a string ──
 
 more-long : (s : List ℕ) (b : ℕ) (t : Bool) → over (length s) ≡ t → more (cond t too-long (bytes s)) b ≡ hearing (s ++ b ∷ [])
-more-long s b true e = let h = ltb-true 32 (length s) e in rw (one-more s b, lt-ltb 32 (suc (length s)) (omega arith))
+more-long s b true e = let h = ltb-true limit (length s) e in rw (one-more s b, lt-ltb limit (suc (length s)) (omega arith))
 more-long s b false e = refl
 
 pub more-hearing : (s : List ℕ) (b : ℕ) → more (hearing s) b ≡ hearing (s ++ b ∷ [])
@@ -84,22 +83,22 @@ on-tests s b false false = more-hearing s b
 
 on-hearing : (s : List ℕ) (b : ℕ) → onward (kind b) (hearing s) b ≡ hearing (cond (ending b) [] (s ++ b ∷ []))
 unfolding kind
-on-hearing s b = on-tests s b (eqb b (byte "*") || eqb b (byte "$")) (eqb b (byte "\r") || eqb b (byte "\n"))
+on-hearing s b = on-tests s b (ends b) (drops b)
 
 -- ── every byte since power-up ──
 
-wide-by : (r : Receiver) (b : ℕ) → length (r .bytes) ≡ 32 → (t : Bool)
-    → length ((cond {A = Receiver} t (record { bytes = set (r .bytes) (r .length) b; length = r .length + 1 }) (record { bytes = r .bytes; length = 33 })) .bytes) ≡ 32
+wide-by : (r : Receiver) (b : ℕ) → length (r .bytes) ≡ limit → (t : Bool)
+    → length ((cond {A = Receiver} t (record { bytes = set (r .bytes) (r .length) b; length = r .length + 1 }) (record { bytes = r .bytes; length = limit + 1 })) .bytes) ≡ limit
 wide-by r b e true = rw length-set e
 wide-by r b e false = e
 
-wide-taken : (k : Kind) (r : Receiver) (b : ℕ) → length (r .bytes) ≡ 32 → length (taken k r b .bytes) ≡ 32
+wide-taken : (k : Kind) (r : Receiver) (b : ℕ) → length (r .bytes) ≡ limit → length (taken k r b .bytes) ≡ limit
 unfolding store
 wide-taken End r b e = e
 wide-taken Drop r b e = e
 wide-taken Part r b e = wide-by r b e (ltb (r .length) limit)
 
-pub wide : (h : List ℕ) → length (after h .bytes) ≡ 32
+pub wide : (h : List ℕ) → length (after h .bytes) ≡ limit
 unfolding after
 wide [] = refl
 wide (b ∷ h) = wide-taken (kind b) (after h) b (wide h)

@@ -3,13 +3,13 @@ use mathlib.Core.Path.{_≡_, sym, ap, _∙_}
 use mathlib.Core.Bool.{true}
 use Prim.Native.Nat.{ℕ}
 use lib.ListN.{length, take}
-use Rattle.receiver.specs.Receiver.{Heard, too-long, over, kind, next, heard}
+use Rattle.receiver.specs.Receiver.{Heard, too-long, limit, over, kind, next, heard}
 use Rattle.receiver.specs.Since.{Receives}
 use Rattle.receiver.specs.declared.Receiver.{Receiver}
 use Rattle.receiver.proofs.Hearing.{onward, next-heard, hears}
 use Rattle.receiver.proofs.Beginning.{begun, only}
 
-by-view : (r q : Receiver) (b : ℕ) → length (r .bytes) ≡ 32 → length (q .bytes) ≡ 32 → heard r ≡ heard q → heard (next r b) ≡ heard (next q b)
+by-view : (r q : Receiver) (b : ℕ) → length (r .bytes) ≡ limit → length (q .bytes) ≡ limit → heard r ≡ heard q → heard (next r b) ≡ heard (next q b)
 by-view r q b h k e = next-heard r b h ∙ ap (λ (x : Heard). onward (kind b) x b) e ∙ sym (next-heard q b k)
 
 by-string : (r q : Receiver) → r .length ≡ q .length → take (r .length) (r .bytes) ≡ take (r .length) (q .bytes) → heard r ≡ heard q

@@ -10,8 +10,14 @@ use Rattle.receiver.specs.declared.Kind.{Kind}
 use Rattle.receiver.specs.declared.Kind.the-variants.{End, Drop, Part}
 
 -- `*` and `$` end a string, CR and LF drop it, any other byte is part of it
+abbrev pub ends : ℕ → Bool
+ends b = eqb b (byte "*") || eqb b (byte "$")
+
+abbrev pub drops : ℕ → Bool
+drops b = eqb b (byte "\r") || eqb b (byte "\n")
+
 unfoldable pub kind : ℕ → Kind
-kind b = cond (eqb b (byte "*") || eqb b (byte "$")) End (cond (eqb b (byte "\r") || eqb b (byte "\n")) Drop Part)
+kind b = cond (ends b) End (cond (drops b) Drop Part)
 
 -- a string is well-formed only with at most 32 bytes before its end
 abbrev pub limit : ℕ
@@ -24,14 +30,14 @@ over n = ltb limit n
 
 -- at power-up nothing is held
 abbrev pub silent : Receiver
-silent = record { bytes = replicate 32 0; length = 0 }
+silent = record { bytes = replicate limit 0; length = 0 }
 
 -- a byte goes behind the string; where it has no room the length says "too long", and the bytes stay
 unfoldable pub store : Receiver → ℕ → Receiver
 store r b =
     cond (ltb (r .length) limit)
     (record { bytes = set (r .bytes) (r .length) b; length = r .length + 1 })
-    (record { bytes = r .bytes; length = 33 })
+    (record { bytes = r .bytes; length = limit + 1 })
 
 -- emptied by its length alone: the bytes stay, and mean nothing
 abbrev pub emptied : Receiver → Receiver

@@ -3,15 +3,13 @@ use Prim.Native.Nat.{ℕ}
 use mathlib.Core.Path.{_≡_}
 use mathlib.Core.Bool.{Bool, true, false, cond, _||_}
 use mathlib.Core.List.{List, [], _∷_, _++_, reverse}
-use lib.Dec.{eqb}
 use lib.ListN.{length, take}
-use Rattle.register.specs.Bytes.{byte}
 use Rattle.receiver.specs.declared.Receiver.{Receiver}
-use Rattle.receiver.specs.Receiver.{Heard, bytes, too-long, over, silent, next, heard}
+use Rattle.receiver.specs.Receiver.{Heard, bytes, too-long, limit, ends, drops, over, silent, next, heard}
 
--- a string begins after `*`, `$`, CR or LF
+-- a string begins after a byte that ends or drops one
 abbrev pub ending : ℕ → Bool
-ending b = (eqb b (byte "*") || eqb b (byte "$")) || (eqb b (byte "\r") || eqb b (byte "\n"))
+ending b = ends b || drops b
 
 -- every byte since power-up or the last ending byte, in the order in which they came
 unfoldable pub since : List ℕ → List ℕ
@@ -48,7 +46,7 @@ pub record Receives : Type 0 where
   pub begun : (h : List ℕ) → Begun (reverse h) (since h)
   pub only : (h s : List ℕ) → Begun (reverse h) s → since h ≡ s
   -- nothing that is heard depends on what stands behind the string, now or after any byte
-  pub by-view : (r q : Receiver) (b : ℕ) → length (r .bytes) ≡ 32 → length (q .bytes) ≡ 32 → heard r ≡ heard q → heard (next r b) ≡ heard (next q b)
+  pub by-view : (r q : Receiver) (b : ℕ) → length (r .bytes) ≡ limit → length (q .bytes) ≡ limit → heard r ≡ heard q → heard (next r b) ≡ heard (next q b)
   pub by-string : (r q : Receiver) → r .length ≡ q .length → take (r .length) (r .bytes) ≡ take (r .length) (q .bytes) → heard r ≡ heard q
-  -- too long is one state: a length above 32 tells nothing more
+  -- too long is one state: a length above the limit tells nothing more
   pub one-state : (r : Receiver) → over (r .length) ≡ true → heard r ≡ too-long

@@ -6,8 +6,11 @@
 ghost use mathlib.Core.Path.{_≡_};
 ghost use Rattle.receiver.specs.Receiver.{kind, silent, over, store, emptied};
 
+// The most bytes that a string may have before its end.
+const LIMIT: usize = 32;
+
 pub struct Receiver {
-    pub bytes: [u8; 32],
+    pub bytes: [u8; LIMIT],
     pub length: usize,
 }
 
@@ -33,7 +36,7 @@ pub fn power_up() -> Receiver
     ensures { λ r. ⌜ r ≡ silent ⌝ }
 {
     Receiver {
-        bytes: [0; 32],
+        bytes: [0; LIMIT],
         length: 0,
     }
 }
@@ -42,7 +45,7 @@ pub fn power_up() -> Receiver
 pub fn is_over(length: usize) -> bool
     ensures { λ r. ⌜ r ≡ over length ⌝ }
 {
-    32 < length
+    LIMIT < length
 }
 
 // A byte that is part of a string.
@@ -51,11 +54,11 @@ pub fn stored(r: Receiver, b: u8) -> Receiver
 {
     let mut n = r;
     let at = r.length;
-    if at < 32 {
+    if at < LIMIT {
         n.bytes[at] = b;
         n.length = at + 1;
     } else {
-        n.length = 33;
+        n.length = LIMIT + 1;
     }
     n
 }

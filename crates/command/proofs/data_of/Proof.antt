@@ -3,7 +3,8 @@ use mathlib.Core.Path.{sym, ap, _∙_}
 use mir.Syntax.{w32}
 use mir.Facts.{toZ-ofZ}
 use borrow.Author.Tests.{eq-eqb, ne-eqb}
-use Rattle.command.specs.Parse.{data-of}
+use Rattle.register.specs.Registers.{at}
+use Rattle.command.specs.Parse.{dataOf}
 use Rattle.command.specs.declared.Asked.the-variants.{Write}
 use borrow.Author.Needs.{needs}
 use Rattle.command.proofs.data_of.Statement.{statement}
@@ -13,8 +14,8 @@ status-requires : tie.Need-status-requires
 status-requires c κs = search needs
 
 returns : tie.Need-returns
-unfolding data-of
-returns c = rw (eq-eqb (c .before .before .before .args .i) 9 (c .before .if1 .taken), c .status .ensures)
+unfolding dataOf
+returns c = rw (eq-eqb (c .before .before .before .args .i) (at "J") (c .before .if1 .taken), c .status .ensures)
 
 number-of-requires : tie.Need-number-of-requires
 number-of-requires c κs = search needs
@@ -26,19 +27,19 @@ enum-told : tie.Need-enum-told
 enum-told c = search needs
 
 returns-2 : tie.Need-returns-2
-unfolding data-of
+unfolding dataOf
 returns-2 c =
     let i = c .before .before .before .before .before .before .args .i in
     let n = sym (c .before .before .before .number-of .ensures) ∙ c .before .n .given .1 in
     ap (Write i) (toZ-ofZ {w = w32} {z = c .before .n .given .0 .0} (record { sfits = c .known-told .given .0 .1 }))
-    ∙ rw (ne-eqb i 9 (c .before .before .before .before .if1 .left), n)
+    ∙ rw (ne-eqb i (at "J") (c .before .before .before .before .if1 .left), n)
 
 returns-3 : tie.Need-returns-3
-unfolding data-of
+unfolding dataOf
 returns-3 c =
     let i = c .before .before .before .before .before .args .i in
     let n = sym (c .before .before .number-of .ensures) ∙ c .enum-told .given .1 in
-    rw (ne-eqb i 9 (c .before .before .before .if1 .left), n)
+    rw (ne-eqb i (at "J") (c .before .before .before .if1 .left), n)
 
 pub data-of-spec : {M : Type 1} → statement M
 data-of-spec =

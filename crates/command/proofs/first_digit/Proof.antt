@@ -3,7 +3,7 @@ use native.Mathlib.Omega.{arith}
 use mathlib.Core.Path.{sym, _∙_}
 use lib.ListN.{getD}
 use Rattle.register.specs.Bytes.{byte}
-use Rattle.command.specs.Parse.{first-digit}
+use Rattle.command.specs.Parse.{firstDigit}
 use Rattle.command.proofs.Lists.{none, split}
 use Rattle.register.proofs.Ranges.{in-range, below-range, above-range}
 use borrow.Author.Needs.{needs}
@@ -11,7 +11,7 @@ use Rattle.command.proofs.first_digit.Statement.{statement}
 use Rattle.command.proofs.first_digit.Tie as tie
 
 returns : tie.Need-returns
-unfolding first-digit
+unfolding firstDigit
 returns c = rw (none (c .before .before .args .s .now) (omega arith))
 
 shared-slice-read-b : tie.Need-shared-slice-read-b
@@ -30,22 +30,22 @@ second-digit-requires : tie.Need-second-digit-requires
 second-digit-requires c κs = search needs
 
 returns-2 : tie.Need-returns-2
-unfolding first-digit
+unfolding firstDigit
 returns-2 c =
     let s = c .before .before .before .before .before .before .before .args .s .now in
-    c .second-digit .ensures ∙ sym (split first-digit s (omega arith) ∙ rw (in-range (byte "0") (byte "9") (getD s 0 0) (omega arith) (omega arith)))
+    c .second-digit .ensures ∙ sym (split firstDigit s (omega arith) ∙ rw (in-range (byte "0") (byte "9") (getD s 0 0) (omega arith) (omega arith)))
 
 returns-3 : tie.Need-returns-3
-unfolding first-digit
+unfolding firstDigit
 returns-3 c =
     let s = c .before .before .before .before .args .s .now in
-    sym (split first-digit s (omega arith) ∙ rw (below-range (byte "0") (byte "9") (getD s 0 0) (omega arith)))
+    sym (split firstDigit s (omega arith) ∙ rw (below-range (byte "0") (byte "9") (getD s 0 0) (omega arith)))
 
 returns-4 : tie.Need-returns-4
-unfolding first-digit
+unfolding firstDigit
 returns-4 c =
     let s = c .before .before .before .before .before .args .s .now in
-    sym (split first-digit s (omega arith) ∙ rw (above-range (byte "0") (byte "9") (getD s 0 0) (omega arith)))
+    sym (split firstDigit s (omega arith) ∙ rw (above-range (byte "0") (byte "9") (getD s 0 0) (omega arith)))
 
 pub first-digit-spec : {M : Type 1} → statement M
 first-digit-spec =

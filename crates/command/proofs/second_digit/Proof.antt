@@ -6,8 +6,8 @@ use mathlib.Core.Logic.{⊎-elim}
 use mathlib.Core.Bool.{false}
 use lib.ListN.{getD}
 use Rattle.register.specs.Bytes.{byte}
-use Rattle.command.specs.Number.{is-digit}
-use Rattle.command.specs.Parse.{body, second-digit}
+use Rattle.command.specs.Number.{isDigit}
+use Rattle.command.specs.Parse.{body, secondDigit}
 use Rattle.command.specs.declared.Parsed.the-variants.{To}
 use Rattle.command.proofs.Lists.{none, split}
 use Rattle.register.proofs.Ranges.{in-range, below-range, above-range}
@@ -16,7 +16,7 @@ use Rattle.command.proofs.second_digit.Statement.{statement}
 use Rattle.command.proofs.second_digit.Tie as tie
 
 returns : tie.Need-returns
-unfolding second-digit
+unfolding secondDigit
 returns c = rw (none (c .before .before .args .s .now) (omega arith))
 
 shared-slice-read-b : tie.Need-shared-slice-read-b
@@ -44,22 +44,22 @@ body-requires-2 : tie.Need-body-requires-2
 body-requires-2 c κs = search needs
 
 returns-2 : tie.Need-returns-2
-unfolding second-digit
+unfolding secondDigit
 returns-2 c =
     let d = c .before .before .before .before .before .before .before .args .d in
     let s = c .before .before .before .before .before .before .before .args .s .now in
     let b = getD s 0 0 in
     ap (To (10 * d + (b - byte "0"))) (c .body .ensures)
-    ∙ sym (split (second-digit d) s (omega arith) ∙ rw (in-range (byte "0") (byte "9") b (omega arith) (omega arith)))
+    ∙ sym (split (secondDigit d) s (omega arith) ∙ rw (in-range (byte "0") (byte "9") b (omega arith) (omega arith)))
 
 returns-3 : tie.Need-returns-3
-unfolding second-digit
+unfolding secondDigit
 returns-3 c =
     let d = c .before .before .before .before .before .args .d in
     let s = c .before .before .before .before .before .args .s .now in
     let b = getD s 0 0 in
-    let n : is-digit b ≡ false = ⊎-elim (λ w. below-range (byte "0") (byte "9") b (omega arith)) (λ w. above-range (byte "0") (byte "9") b (omega arith)) (c .before .if2 .came) in
-    ap (To d) (c .body2 .ensures) ∙ sym (split (second-digit d) s (omega arith) ∙ rw (n, ← split body s (omega arith)))
+    let n : isDigit b ≡ false = ⊎-elim (λ w. below-range (byte "0") (byte "9") b (omega arith)) (λ w. above-range (byte "0") (byte "9") b (omega arith)) (c .before .if2 .came) in
+    ap (To d) (c .body2 .ensures) ∙ sym (split (secondDigit d) s (omega arith) ∙ rw (n, ← split body s (omega arith)))
 
 pub second-digit-spec : {M : Type 1} → statement M
 second-digit-spec =

@@ -5,12 +5,13 @@ use mathlib.Core.Path.{_≡_, refl, sym, ap, _∙_}
 use mathlib.Core.List.{List, [], _∷_}
 use Prim.Native.Nat.{ℕ}
 use lib.ListN.{length}
+use Rattle.register.specs.Registers.{count}
 use Rattle.command.specs.Parse.{sole}
 use Rattle.command.proofs.Lists.{one}
 use Rattle.command.proofs.sole_register.Statement.{statement}
 use Rattle.command.proofs.sole_register.Tie as tie
 
-other : (s : List ℕ) → (length s ≡ 1 → ⊥) → sole s ≡ 10
+other : (s : List ℕ) → (length s ≡ 1 → ⊥) → sole s ≡ count
 unfolding sole
 other [] h = refl
 other (b ∷ []) h = absurd (h refl)
