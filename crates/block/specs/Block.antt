@@ -1,74 +1,62 @@
--- A block print.
-use Prim.Native.Nat.{ℕ, _-_, _+_, _*_, _≤_}
-use mathlib.Core.Bool.{Bool, cond, _||_}
-use mathlib.Core.List.{List, [], _++_}
-use Prim.Native.Char.{Char}
-use lib.IntN.{pos}
-use lib.ListN.{getD}
-use Rattle.reading.specs.declared.Reading.{Reading}
-use Rattle.reading.specs.declared.Reading.the-variants.{Number}
-use Rattle.register.specs.Bytes.{byte, ascii}
-use Rattle.field.specs.Field.{Showable}
-use Rattle.line.specs.declared.Style.{Style}
-use Rattle.block.specs.declared.Options.{Options}
-use Rattle.block.specs.declared.Values.{Values}
-use Rattle.line.specs.Line.{line, lineLength}
+-- A block print: the lines of the chosen registers, and the end. What a register's line is, is said elsewhere.
+use Prim.Native.Nat.{ℕ, _+_, _*_}
+use mathlib.Core.Bool.{Bool, false, cond, _||_}
+use mathlib.Core.List.{List, [], _∷_, _++_}
+use Rattle.register.specs.Bytes.{ascii}
+use Rattle.register.specs.Registers.{at}
+use Rattle.register.specs.declared.Print.{Print}
+
+-- what a line is printed by: INP; TOT; MAX with MIN; all four setpoints
+pub data Option : Type 0 where
+  input : Option
+  total : Option
+  extremes : Option
+  setpoints : Option
+
+abbrev pub wants : Print → Option → Bool
+wants p input = p .input
+wants p total = p .total
+wants p extremes = p .extremes
+wants p setpoints = p .setpoints
+
+-- the registers of a block, in its order, which is that of their letters, each with its option
+abbrev pub order : List (ℕ × Option)
+order =
+    (at "A", input)
+    ∷ (at "B", total)
+    ∷ (at "C", extremes)
+    ∷ (at "D", extremes)
+    ∷ (at "E", setpoints)
+    ∷ (at "F", setpoints)
+    ∷ (at "G", setpoints)
+    ∷ (at "H", setpoints)
+    ∷ []
 
 -- a text where it is chosen, else nothing
 abbrev pub chosen : Bool → List ℕ → List ℕ
 chosen wanted text = cond wanted text []
 
--- the place of a register in the list, by its letter
-abbrev pub at : Char → ℕ
-at letter = byte letter - byte "A"
+-- the chosen lines of a list, one after another
+unfoldable pub chosenLines : Print → (ℕ → List ℕ) → List (ℕ × Option) → List ℕ
+chosenLines p line [] = []
+chosenLines p line (x ∷ xs) = chosen (wants p (x .1)) (line (x .0)) ++ chosenLines p line xs
 
--- a setpoint, by its place among the four
-abbrev pub setpoint : Values → ℕ → Reading
-setpoint values i = Number (getD (values .setpoints) i (pos 0))
+-- whether any is chosen, and how many are
+unfoldable pub some : Print → List (ℕ × Option) → Bool
+some p [] = false
+some p (x ∷ xs) = wants p (x .1) || some p xs
+
+unfoldable pub lineCount : Print → List (ℕ × Option) → ℕ
+lineCount p [] = 0
+lineCount p (x ∷ xs) = cond (wants p (x .1)) 1 0 + lineCount p xs
 
 abbrev pub blockEnd : List ℕ
 blockEnd = ascii " \r\n"
 
--- whether any line is chosen
-abbrev pub some : Options → Bool
-some options = options .input || options .total || options .extremes || options .setpoints
+-- the lines, then space, CR and LF; nothing where nothing is chosen. `line r` is the line of register r
+unfoldable pub block : Print → (ℕ → List ℕ) → List ℕ
+block p line = chosenLines p line order ++ chosen (some p order) blockEnd
 
--- the chosen lines in letter order: input, total, max and min
-unfoldable pub readings : Style → Options → Values → List ℕ
-readings style options values =
-    chosen (options .input) (line style (at "A") (values .places .input) (values .input))
-    ++ chosen (options .total) (line style (at "B") (values .places .total) (values .total))
-    ++ chosen (options .extremes) (line style (at "C") (values .places .input) (values .max))
-    ++ chosen (options .extremes) (line style (at "D") (values .places .input) (values .min))
-
--- and the four setpoints
-unfoldable pub setpoints : Style → Options → Values → List ℕ
-setpoints style options values =
-    chosen (options .setpoints) (line style (at "E") (values .places .input) (setpoint values 0))
-    ++ chosen (options .setpoints) (line style (at "F") (values .places .input) (setpoint values 1))
-    ++ chosen (options .setpoints) (line style (at "G") (values .places .input) (setpoint values 2))
-    ++ chosen (options .setpoints) (line style (at "H") (values .places .input) (setpoint values 3))
-
--- the lines, then space, CR and LF; nothing where nothing is chosen
-unfoldable pub block : Style → Options → Values → List ℕ
-block style options values = readings style options values ++ setpoints style options values ++ chosen (some options) blockEnd
-
--- how many lines a block has
-abbrev pub lineCount : Options → ℕ
-lineCount options = cond (options .input) 1 0 + cond (options .total) 1 0 + cond (options .extremes) 2 0 + cond (options .setpoints) 4 0
-
--- how long a block is
-abbrev pub blockLength : Style → Options → ℕ
-blockLength style options = lineCount options * lineLength style + cond (some options) 3 0
-
--- what a block can show: a node of 0 to 99, and values that fit into the data bytes
-pub record Printable (style : Style) (values : Values) : Type 0 where
-  pub named : style .node ≤ 99
-  pub input : Showable (values .places .input) (values .input)
-  pub total : Showable (values .places .total) (values .total)
-  pub max : Showable (values .places .input) (values .max)
-  pub min : Showable (values .places .input) (values .min)
-  pub sp1 : Showable (values .places .input) (setpoint values 0)
-  pub sp2 : Showable (values .places .input) (setpoint values 1)
-  pub sp3 : Showable (values .places .input) (setpoint values 2)
-  pub sp4 : Showable (values .places .input) (setpoint values 3)
+-- how long a block is whose lines have so many bytes
+abbrev pub blockLength : Print → ℕ → ℕ
+blockLength p bytes = lineCount p order * bytes + cond (some p order) 3 0

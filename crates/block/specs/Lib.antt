@@ -1,1 +1,3 @@
 pub mod Block
+pub mod Values
+pub mod Cases

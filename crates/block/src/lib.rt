@@ -2,21 +2,23 @@
 ghost use mathlib.Core.Path.{_≡_};
 ghost use mathlib.Core.Bool.{cond};
 ghost use Prim.Native.Nat.{_+_, _≤_};
-ghost use lib.ListN.{length};
+ghost use lib.ListN.{length, take, drop};
 ghost use Rattle.line.specs.Buffer.{over, laid, after, answer};
-ghost use Rattle.line.specs.Line.{line, Writable};
-ghost use Rattle.block.specs.Block.{chosen, some, readings, setpoints, blockEnd, block, blockLength, Printable};
+ghost use Rattle.line.specs.Line.{line, lineLength, Writable};
+ghost use Rattle.block.specs.Block.{order, chosen, chosenLines, some, blockEnd, block, blockLength};
+ghost use Rattle.block.specs.Values.{valueLine, Printable};
 use line::Style;
 use line::Written;
 use reading::Reading;
-
-// What a block print holds: the input, the total, max with min, all four setpoints.
-pub struct Options {
-    pub input: bool,
-    pub total: bool,
-    pub extremes: bool,
-    pub setpoints: bool,
-}
+use register::INP;
+use register::MAX;
+use register::MIN;
+use register::Print;
+use register::SP1;
+use register::SP2;
+use register::SP3;
+use register::SP4;
+use register::TOT;
 
 // Decimal places: those of the input, which max, min and the setpoints have too, and those of the total.
 pub struct Places {
@@ -55,10 +57,10 @@ fn put_chosen(
 }
 
 // Whether any line is chosen.
-fn any(options: Options) -> bool
-    ensures { λ r. ⌜ r ≡ some options ⌝ }
+fn any(print: Print) -> bool
+    ensures { λ r. ⌜ r ≡ some print order ⌝ }
 {
-    options.input | options.total | options.extremes | options.setpoints
+    print.input | print.total | print.extremes | print.setpoints
 }
 
 // The end of a block, from a place of the tail on.
@@ -71,10 +73,10 @@ fn put_end(buf: &mut [u8], at: usize, wanted: bool)
     }
 }
 
-// The chosen lines of input, total, max and min, over the front of a tail. The answer is the place behind them.
-fn put_readings(buf: &mut [u8], style: Style, options: Options, values: Values) -> usize
-    requires { ⌜ Printable style values × (length (readings style options values) ≤ length (now buf)) ⌝ }
-    ensures { λ r. ⌜ (r ≡ length (readings style options values)) × (now (buf .exit) ≡ over (now (buf .entry)) (readings style options values)) ⌝ }
+// Of the first four lines, input, total, max and min, the chosen ones, over the front of a tail. The answer is the place behind them.
+fn put_readings(buf: &mut [u8], style: Style, print: Print, values: Values) -> usize
+    requires { ⌜ Printable style values × (length (chosenLines print (valueLine style values) (take 4 order)) ≤ length (now buf)) ⌝ }
+    ensures { λ r. ⌜ (r ≡ length (chosenLines print (valueLine style values) (take 4 order))) × (now (buf .exit) ≡ over (now (buf .entry)) (chosenLines print (valueLine style values) (take 4 order))) ⌝ }
 {
     let places = values.places;
     let of_input = places.input;
@@ -83,35 +85,35 @@ fn put_readings(buf: &mut [u8], style: Style, options: Options, values: Values) 
     let total = values.total;
     let max = values.max;
     let min = values.min;
-    let at = put_chosen(buf, 0, options.input, style, 0, of_input, input);
-    let at = put_chosen(buf, at, options.total, style, 1, of_total, total);
-    let at = put_chosen(buf, at, options.extremes, style, 2, of_input, max);
-    put_chosen(buf, at, options.extremes, style, 3, of_input, min)
+    let at = put_chosen(buf, 0, print.input, style, INP, of_input, input);
+    let at = put_chosen(buf, at, print.total, style, TOT, of_total, total);
+    let at = put_chosen(buf, at, print.extremes, style, MAX, of_input, max);
+    put_chosen(buf, at, print.extremes, style, MIN, of_input, min)
 }
 
-// The lines of the four setpoints, where they are chosen, from a place of the tail on. The answer is the place behind them.
-fn put_setpoints(buf: &mut [u8], at: usize, style: Style, options: Options, values: Values) -> usize
-    requires { ⌜ Printable style values × (at + length (setpoints style options values) ≤ length (now buf)) ⌝ }
-    ensures { λ r. ⌜ (r ≡ at + length (setpoints style options values)) × (now (buf .exit) ≡ laid (now (buf .entry)) at (setpoints style options values)) ⌝ }
+// The lines behind them, the four setpoints, where they are chosen, from a place of the tail on. The answer is the place behind them.
+fn put_setpoints(buf: &mut [u8], at: usize, style: Style, print: Print, values: Values) -> usize
+    requires { ⌜ Printable style values × (at + length (chosenLines print (valueLine style values) (drop 4 order)) ≤ length (now buf)) ⌝ }
+    ensures { λ r. ⌜ (r ≡ at + length (chosenLines print (valueLine style values) (drop 4 order))) × (now (buf .exit) ≡ laid (now (buf .entry)) at (chosenLines print (valueLine style values) (drop 4 order))) ⌝ }
 {
-    let wanted = options.setpoints;
+    let wanted = print.setpoints;
     let places = values.places;
     let input = places.input;
     let four = values.setpoints;
-    let at = put_chosen(buf, at, wanted, style, 4, input, Reading::Number(four[0]));
-    let at = put_chosen(buf, at, wanted, style, 5, input, Reading::Number(four[1]));
-    let at = put_chosen(buf, at, wanted, style, 6, input, Reading::Number(four[2]));
-    put_chosen(buf, at, wanted, style, 7, input, Reading::Number(four[3]))
+    let at = put_chosen(buf, at, wanted, style, SP1, input, Reading::Number(four[0]));
+    let at = put_chosen(buf, at, wanted, style, SP2, input, Reading::Number(four[1]));
+    let at = put_chosen(buf, at, wanted, style, SP3, input, Reading::Number(four[2]));
+    put_chosen(buf, at, wanted, style, SP4, input, Reading::Number(four[3]))
 }
 
 // A block, over the front of a tail that has room for it.
-fn put_block(buf: &mut [u8], style: Style, options: Options, values: Values)
-    requires { ⌜ Printable style values × (length (block style options values) ≤ length (now buf)) ⌝ }
-    ensures { λ _. ⌜ now (buf .exit) ≡ over (now (buf .entry)) (block style options values) ⌝ }
+fn put_block(buf: &mut [u8], style: Style, print: Print, values: Values)
+    requires { ⌜ Printable style values × (length (block print (valueLine style values)) ≤ length (now buf)) ⌝ }
+    ensures { λ _. ⌜ now (buf .exit) ≡ over (now (buf .entry)) (block print (valueLine style values)) ⌝ }
 {
-    let at = put_readings(buf, style, options, values);
-    let at = put_setpoints(buf, at, style, options, values);
-    put_end(buf, at, any(options));
+    let at = put_readings(buf, style, print, values);
+    let at = put_setpoints(buf, at, style, print, values);
+    put_end(buf, at, any(print));
 }
 
 // So many lines or bytes where they are chosen.
@@ -122,14 +124,14 @@ fn count(wanted: bool, n: usize) -> usize
 }
 
 // How long a block is.
-fn block_length(style: Style, options: Options) -> usize
-    ensures { λ r. ⌜ r ≡ blockLength style options ⌝ }
+fn block_length(style: Style, print: Print) -> usize
+    ensures { λ r. ⌜ r ≡ blockLength print (lineLength style) ⌝ }
 {
-    let lines = count(options.input, 1)
-        + count(options.total, 1)
-        + count(options.extremes, 2)
-        + count(options.setpoints, 4);
-    lines * line::line_length(style) + count(any(options), 3)
+    let lines = count(print.input, 1)
+        + count(print.total, 1)
+        + count(print.extremes, 2)
+        + count(print.setpoints, 4);
+    lines * line::line_length(style) + count(any(print), 3)
 }
 
 // A block print as a whole reply, from a place on.
@@ -137,15 +139,15 @@ pub fn write_block(
     buf: &mut [u8],
     place: usize,
     style: Style,
-    options: Options,
+    print: Print,
     values: Values,
 ) -> Written
     requires { ⌜ Printable style values ⌝ }
-    ensures { λ r. ⌜ (r ≡ answer (now (buf .entry)) place (block style options values)) × (now (buf .exit) ≡ after (now (buf .entry)) place (block style options values)) ⌝ }
+    ensures { λ r. ⌜ (r ≡ answer (now (buf .entry)) place (block print (valueLine style values))) × (now (buf .exit) ≡ after (now (buf .entry)) place (block print (valueLine style values))) ⌝ }
 {
-    let bytes = block_length(style, options);
+    let bytes = block_length(style, print);
     if line::has_room(buf.len(), place, bytes) {
-        put_block(&mut buf[place..], style, options, values);
+        put_block(&mut buf[place..], style, print, values);
         return Written::Bytes(bytes);
     }
     Written::NoRoom

@@ -6,6 +6,7 @@ use lib.Dec.{ltb}
 use lib.IntN.{ℤ, natAbs}
 use lib.ListN.{length, take, replicate}
 use Rattle.exact.specs.Sign.{isNeg}
+use Rattle.reading.specs.Reading.{size}
 use Rattle.reading.specs.declared.Reading.{Reading}
 use Rattle.reading.specs.declared.Reading.the-variants.{Nothing, Under, Number, Over}
 use Rattle.register.specs.Bytes.{byte, ascii}
@@ -55,13 +56,6 @@ field places shown = replicate (12 - length (text places shown)) (byte " ") ++ t
 -- a text over the right end of d
 unfoldable pub atRight : List ℕ → List ℕ → List ℕ
 atRight d t = take (length d - length t) d ++ t
-
--- how far from zero the number lies that is shown
-abbrev pub size : Reading → ℕ
-size Nothing = 0
-size Under = 0
-size (Number z) = natAbs z
-size Over = 0
 
 -- at most four decimal places, and a number of at most nine digits: readings, totals from -199,999,999 to 999,999,999 and all else that is shown
 pub record Showable (places : ℕ) (shown : Reading) : Type 0 where

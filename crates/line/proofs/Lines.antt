@@ -8,7 +8,7 @@ use lib.Dec.{eqb}
 use lib.ListN.{length, length-append}
 use Rattle.reading.specs.declared.Reading.{Reading}
 use Rattle.register.specs.Bytes.{ascii}
-use Rattle.register.specs.Registers.{entry}
+use Rattle.register.specs.Registers.{entry, count}
 use Rattle.register.proofs.Table.{ruled}
 use Rattle.field.specs.Field.{digits, field, Showable}
 use Rattle.field.proofs.Digits.{digits-length}
@@ -24,7 +24,7 @@ node-length node = by (eqb node 0)
     by true = refl
     by false = digits-length 2 node
 
-pub head-length : (node register : ℕ) → register < 10 → length (head node register) ≡ 6
+pub head-length : (node register : ℕ) → register < count → length (head node register) ≡ 6
 unfolding head
 head-length node register h =
     length-append (nodeText node ++ ascii " ") (entry register .mnemonic)
@@ -37,7 +37,7 @@ abbreviated-length places shown s =
     length-append (field places shown) lineEnd ∙ omega (arith, field-length places shown s)
 
 -- a full line has 20
-pub full-length : (node register places : ℕ) (shown : Reading) → register < 10 → Showable places shown → length (fullLine node register places shown) ≡ 20
+pub full-length : (node register places : ℕ) (shown : Reading) → register < count → Showable places shown → length (fullLine node register places shown) ≡ 20
 unfolding fullLine
 full-length node register places shown h s =
     length-append (head node register) (abbreviatedLine places shown)

@@ -5,7 +5,7 @@ use mathlib.Core.List.{List, _++_}
 use lib.Dec.{eqb}
 use Rattle.reading.specs.declared.Reading.{Reading}
 use Rattle.register.specs.Bytes.{ascii}
-use Rattle.register.specs.Registers.{entry}
+use Rattle.register.specs.Registers.{entry, count}
 use Rattle.field.specs.Field.{digits, field, Showable}
 use Rattle.line.specs.declared.Style.{Style}
 
@@ -37,8 +37,8 @@ line style register places shown =
 abbrev pub lineLength : Style → ℕ
 lineLength style = cond (style .abbreviated) 14 20
 
--- what a line can show: a node of 0 to 99, one of the ten registers, and what fits into the data bytes
+-- what a line can show: a node of 0 to 99, a register of the list, and what fits into the data bytes
 pub record Writable (style : Style) (register places : ℕ) (shown : Reading) : Type 0 where
   pub named : style .node ≤ 99
-  pub known : register < 10
+  pub known : register < count
   pub fits : Showable places shown

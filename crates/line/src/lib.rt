@@ -2,6 +2,7 @@
 ghost use mathlib.Core.Path.{_≡_};
 ghost use Prim.Native.Nat.{_≤_, _<_};
 ghost use lib.ListN.{length};
+ghost use Rattle.register.specs.Registers.{count};
 ghost use Rattle.field.specs.Field.{field, Showable};
 ghost use Rattle.line.specs.Buffer.{over, room, after, answer};
 ghost use Rattle.line.specs.Line.{nodeText, head, abbreviatedLine, line, lineLength, Writable};
@@ -63,7 +64,7 @@ fn node_text(node: u8) -> [u8; 2]
 
 // Node, space, mnemonic.
 fn put_head(buf: &mut [u8], node: u8, register: usize)
-    requires { ⌜ (node ≤ 99) × (register < 10) × (6 ≤ length (now buf)) ⌝ }
+    requires { ⌜ (node ≤ 99) × (register < count) × (6 ≤ length (now buf)) ⌝ }
     ensures { λ _. ⌜ now (buf .exit) ≡ over (now (buf .entry)) (head node register) ⌝ }
 {
     let name = node_text(node);

@@ -3,7 +3,7 @@ use borrow.Author.Needs.{needs}
 use native.Mathlib.Omega.{arith}
 use native.Mathlib.Nat.{mul-le-mul}
 use Prim.Native.Nat.{_+_, _*_, _≤_}
-use Rattle.block.proofs.Blocks.{at-most}
+use Rattle.block.proofs.Blocks.{at-most, all-counted}
 use Rattle.line.proofs.Lines.{line-most}
 use Rattle.block.proofs.block_length.Statement.{statement}
 use Rattle.block.proofs.block_length.Tie as tie
@@ -16,16 +16,16 @@ count-requires-2 c κs = search needs
 
 add-lines : tie.Need-add-lines
 add-lines c =
-    let o = c .before .before .args .options in
-    omega (arith, at-most (o .input) 1, at-most (o .total) 1)
+    let p = c .before .before .args .print in
+    omega (arith, at-most (p .input) 1, at-most (p .total) 1)
 
 count-requires-3 : tie.Need-count-requires-3
 count-requires-3 c κs = search needs
 
 add-lines-2 : tie.Need-add-lines-2
 add-lines-2 c =
-    let o = c .before .before .before .args .options in
-    omega (arith, at-most (o .input) 1, at-most (o .total) 1, at-most (o .extremes) 2)
+    let p = c .before .before .before .args .print in
+    omega (arith, at-most (p .input) 1, at-most (p .total) 1, at-most (p .extremes) 2)
 
 count-requires-4 : tie.Need-count-requires-4
 count-requires-4 c κs = search needs
@@ -33,8 +33,8 @@ count-requires-4 c κs = search needs
 -- there are at most 8 lines
 lines : (c : tie.After-count4) → c .before .before .before .count .result + c .before .before .count2 .result + c .before .count3 .result + c .count4 .result ≤ 8
 lines c =
-    let o = c .before .before .before .before .args .options in
-    omega (arith, at-most (o .input) 1, at-most (o .total) 1, at-most (o .extremes) 2, at-most (o .setpoints) 4)
+    let p = c .before .before .before .before .args .print in
+    omega (arith, at-most (p .input) 1, at-most (p .total) 1, at-most (p .extremes) 2, at-most (p .setpoints) 4)
 
 add-lines-3 : tie.Need-add-lines-3
 add-lines-3 c = omega (arith, lines c)
@@ -66,6 +66,7 @@ returns : tie.Need-returns
 returns c =
     let l = c .before .before in
     rw (
+      all-counted (l .before .before .before .before .before .args .print),
       c .count5 .ensures,
       c .before .any .ensures,
       l .line-length .ensures,

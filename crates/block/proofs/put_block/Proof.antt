@@ -2,29 +2,35 @@
 use borrow.Author.Needs.{needs}
 use native.Mathlib.Omega.{arith}
 use native.Mathlib.Nat.{zero-add}
-use mathlib.Core.Path.{refl, sym, _∙_}
+use mathlib.Core.Path.{_≡_, refl, sym, ap, _∙_}
 use mathlib.Core.List.{List, _++_}
 use Prim.Native.Nat.{ℕ, _+_, _≤_}
-use lib.ListN.{length}
-use Rattle.block.specs.Block.{chosen, some, readings, setpoints, blockEnd, block}
+use lib.ListN.{length, take, drop}
+use Rattle.block.specs.Block.{order, chosen, chosenLines, some, blockEnd, block}
+use Rattle.block.specs.Values.{valueLine}
+use Rattle.line.specs.Buffer.{over}
 use Rattle.line.proofs.Over.{Upto, room-next, put-next, front-room, laid-front}
+use Rattle.block.proofs.Blocks.{lines-append}
 use Rattle.block.proofs.put_block.Statement.{statement}
 use Rattle.block.proofs.put_block.Tie as tie
 
 -- the three parts
 abbrev first : tie.Start → List ℕ
-first s = readings (s .args .style) (s .args .options) (s .args .values)
+first s = chosenLines (s .args .print) (valueLine (s .args .style) (s .args .values)) (take 4 order)
 
 abbrev second : tie.Start → List ℕ
-second s = setpoints (s .args .style) (s .args .options) (s .args .values)
+second s = chosenLines (s .args .print) (valueLine (s .args .style) (s .args .values)) (drop 4 order)
 
 abbrev third : tie.Start → List ℕ
-third s = chosen (some (s .args .options)) blockEnd
+third s = chosen (some (s .args .print) order) blockEnd
+
+whole : (s : tie.Start) → block (s .args .print) (valueLine (s .args .style) (s .args .values)) ≡ first s ++ second s ++ third s
+unfolding block
+whole s = ap (λ (l : List ℕ). l ++ third s) (lines-append (s .args .print) (valueLine (s .args .style) (s .args .values)) (take 4 order) (drop 4 order))
 
 -- there is room for all three, and so for the first two and for one
 room3 : (s : tie.Start) → 0 + length (first s ++ second s ++ third s) ≤ length (s .args .buf .now)
-unfolding block
-room3 s = omega (arith, s .pre .1)
+room3 s = omega (arith, ap length (whole s), s .pre .1)
 
 room2 : (s : tie.Start) → 0 + length (first s ++ second s) ≤ length (s .args .buf .now)
 room2 s = front-room (first s ++ second s) (third s) 0 _ (room3 s)
@@ -71,13 +77,12 @@ same-length : tie.Need-same-length
 same-length c = search needs
 
 returns : tie.Need-returns
-unfolding block
 returns c =
     let e = c .before .before in
     let f = e .before .before .before .before .before in
     let s = f .before .before .before .before .before .before .before in
     let b = rw (e .before .any .ensures) at (e .put-end .ensures) in
-    put-next (s .args .buf .now) (first s ++ second s) (third s) _ _ 0 _ _ (upto2 f) (room3 s) refl b .bytes ∙ laid-front _ _
+    put-next (s .args .buf .now) (first s ++ second s) (third s) _ _ 0 _ _ (upto2 f) (room3 s) refl b .bytes ∙ laid-front _ _ ∙ ap (over (s .args .buf .now)) (sym (whole s))
 
 pub put-block-spec : {M : Type 1} → statement M
 put-block-spec =

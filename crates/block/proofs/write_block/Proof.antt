@@ -5,8 +5,9 @@ use mathlib.Core.Path.{_≡_, sym, _∙_}
 use Prim.Native.Nat.{_-_, _≤_}
 use lib.ListN.{length}
 use Rattle.block.specs.Block.{block}
+use Rattle.block.specs.Values.{valueLine}
 use Rattle.line.proofs.Over.{tail-length, roomy, wrote, refused}
-use Rattle.block.proofs.Blocks.{block-length}
+use Rattle.block.proofs.Blocks.{block-length, value-length}
 use Rattle.block.proofs.write_block.Statement.{statement}
 use Rattle.block.proofs.write_block.Tie as tie
 
@@ -19,10 +20,10 @@ has-room-requires c κs = search needs
 -- the block's length, and the room that the test found
 bytes : (c : tie.After-block-length) →
     let s = c .before .before in
-    c .block-length .result ≡ length (block (s .args .style) (s .args .options) (s .args .values))
+    c .block-length .result ≡ length (block (s .args .print) (valueLine (s .args .style) (s .args .values)))
 bytes c =
     let s = c .before .before in
-    c .block-length .ensures ∙ sym (block-length (s .args .style) (s .args .options) (s .args .values) (s .pre))
+    c .block-length .ensures ∙ sym (block-length (s .args .print) _ _ (value-length (s .args .style) (s .args .values) (s .pre)))
 
 found : (c : tie.Then1) →
     let s = c .before .before .before .before in
@@ -54,14 +55,14 @@ returns : tie.Need-returns
 returns c =
     let r = c .before .before .before .before .before in
     let s = r .before .before .before in
-    wrote (s .args .buf .now) (block (s .args .style) (s .args .options) (s .args .values)) _ (s .args .place) _ (bytes (r .before))
+    wrote (s .args .buf .now) (block (s .args .print) (valueLine (s .args .style) (s .args .values))) _ (s .args .place) _ (bytes (r .before))
     (sym (r .has-room .ensures) ∙ c .before .before .before .before .if1 .taken) (c .before .before .put-block .ensures)
 
 returns-2 : tie.Need-returns-2
 returns-2 c =
     let r = c .before in
     let s = r .before .before .before in
-    refused (s .args .buf .now) (block (s .args .style) (s .args .options) (s .args .values)) (s .args .place) _ (bytes (r .before))
+    refused (s .args .buf .now) (block (s .args .print) (valueLine (s .args .style) (s .args .values))) (s .args .place) _ (bytes (r .before))
     (sym (r .has-room .ensures) ∙ c .if1 .left)
 
 pub write-block-spec : {M : Type 1} → statement M
