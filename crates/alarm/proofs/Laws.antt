@@ -5,10 +5,10 @@ use mathlib.Core.List.{List, [], _∷_}
 use Prim.Native.Nat.{ℕ, zero, suc, _+_, _≤_, _<_}
 use native.Mathlib.Omega.{arith}
 use lib.IntN.{ℤ, pos, negsuc, _+ℤ_, _-ℤ_}
-use lib.ListN.{length, getD}
+use lib.ListN.{length}
 use lib.Signed.{leZ}
 use Rattle.exact.specs.Sign.{minus}
-use Rattle.exact.proofs.Z.{never, eqZ-refl, eqZ-false, lt-self, lt-not-le, lt-le-le, le-add, sub-le, lt-add, sub-lt}
+use Rattle.exact.proofs.Z.{never, eqZ-refl, eqZ-false, lt-self, lt-not-le, lt-le-le, le-add, sub-le, lt-add, sub-lt, le-next, le-before}
 use Rattle.reading.specs.declared.Reading.{Reading}
 use Rattle.reading.specs.declared.Reading.the-variants.{Nothing, Under, Number, Over}
 use Rattle.run.specs.Run.{samples, counted}
@@ -18,7 +18,7 @@ use Rattle.run.specs.declared.Run.the-variants.{Broken, Going, Complete}
 use Rattle.run.proofs.Laws as runs
 use Rattle.alarm.specs.declared.Settings.{Settings}
 use Rattle.alarm.specs.declared.Alarm.{Alarm}
-use Rattle.alarm.specs.Alarm.{alarm, above, below, atMost, atLeast, onCondition, offCondition, awaited, delay, moved, sampled, reset, written, noAlarm, noSettings, allSampled}
+use Rattle.alarm.specs.Alarm.{alarm, above, below, atMost, atLeast, onCondition, offCondition, awaited, delay, moved, sampled, off, reset, written}
 use Rattle.alarm.specs.Cases.{after}
 
 -- ---- one sample
@@ -122,11 +122,27 @@ new-setpoint a z h = ap (λ (t : Bool). cond t a (alarm z (a .on) 0)) (eqZ-false
 -- ---- a reset
 
 -- the state is off and the run 0, whichever state it was in; the setpoint stays
-pub reset-off : (setpoint : ℤ) (on : Bool) (run : ℕ) → reset (alarm setpoint on run) ≡ alarm setpoint false 0
+pub reset-off : (setpoint : ℤ) (on : Bool) (run : ℕ) → reset (alarm setpoint on run) ≡ off setpoint
 unfolding reset
 reset-off setpoint on run = refl
 
 -- ---- the conditions
+
+-- a reading is at most z where it is below z + 1
+pub at-most-below : (r : Reading) (z : ℤ) → atMost r z ≡ below r (z +ℤ pos 1)
+unfolding atMost below
+at-most-below Nothing z = refl
+at-most-below Under z = refl
+at-most-below (Number v) z = le-next v z
+at-most-below Over z = refl
+
+-- and at least z where it is above z - 1
+pub at-least-above : (r : Reading) (z : ℤ) → atLeast r z ≡ above r (z -ℤ pos 1)
+unfolding atLeast above
+at-least-above Nothing z = refl
+at-least-above Under z = refl
+at-least-above (Number v) z = le-before z v
+at-least-above Over z = refl
 
 -- nothing meets neither of them
 pub nothing-meets-none : (s : Settings) (a : Alarm) → (onCondition s a Nothing ≡ false) × (offCondition s a Nothing ≡ false)
@@ -173,19 +189,3 @@ apart false p (negsuc n) e = never e
 pub none-at-setpoint : (s : Settings) (a : Alarm) → leZ (pos 1) (s .hysteresis) ≡ true → (onCondition s a (Number (a .setpoint)) ≡ false) × (offCondition s a (Number (a .setpoint)) ≡ false)
 unfolding onCondition offCondition
 none-at-setpoint s a e = apart (s .«low_acting») (a .setpoint) (s .hysteresis) e
-
--- ---- four alarms
-
--- alarm i after a sample depends on alarm i and its settings alone
-pub at-each : (settings : List Settings) (alarms : List Alarm) (r : Reading) (i : ℕ) → i < 4 → getD (allSampled settings alarms r) i noAlarm ≡ sampled (getD settings i noSettings) (getD alarms i noAlarm) r
-unfolding allSampled
-at-each settings alarms r zero h = refl
-at-each settings alarms r (suc zero) h = refl
-at-each settings alarms r (suc (suc zero)) h = refl
-at-each settings alarms r (suc (suc (suc zero))) h = refl
-at-each settings alarms r (suc (suc (suc (suc i)))) h = absurd (omega arith)
-
--- there are four of them
-pub four : (settings : List Settings) (alarms : List Alarm) (r : Reading) → length (allSampled settings alarms r) ≡ 4
-unfolding allSampled
-four settings alarms r = refl

@@ -1,9 +1,7 @@
--- Alarms, as document 01 has them: one definition for one alarm, and four of them by it.
+-- One alarm, as document 01 has it.
 use mathlib.Core.Bool.{Bool, true, false, cond, not, _&&_}
-use mathlib.Core.List.{List, [], _∷_}
 use Prim.Native.Nat.{ℕ}
 use lib.IntN.{ℤ, pos, _+ℤ_, _-ℤ_}
-use lib.ListN.{getD}
 use lib.Signed.{leZ, ltZ}
 use Rattle.exact.specs.Sign.{eqZ}
 use Rattle.reading.specs.declared.Reading.{Reading}
@@ -68,6 +66,10 @@ delay s a = cond (a .on) (s .«off_delay») (s .«on_delay»)
 abbrev pub alarm : ℤ → Bool → ℕ → Alarm
 alarm setpoint on run = record { setpoint = setpoint; on = on; run = run }
 
+-- an alarm at power-up: off, with its setpoint
+abbrev pub off : ℤ → Alarm
+off setpoint = alarm setpoint false 0
+
 -- at the count the state changes and the run is 0; any other sample makes the run 0
 unfoldable pub moved : Alarm → Run → Alarm
 moved a Broken = alarm (a .setpoint) (a .on) 0
@@ -80,29 +82,12 @@ sampled s a r = moved a (counted (a .run) (awaited s a r) (samples (delay s a)))
 
 -- a reset makes the state off and the run 0, whichever state it was in
 unfoldable pub reset : Alarm → Alarm
-reset a = alarm (a .setpoint) false 0
+reset a = off (a .setpoint)
 
 -- the present value changes nothing; a new one makes the run 0 and leaves the state
 unfoldable pub written : Alarm → ℤ → Alarm
 written a z = cond (eqZ z (a .setpoint)) a (alarm z (a .on) 0)
 
--- ---- four alarms
-
--- what stands beyond the four; never met
-abbrev pub noAlarm : Alarm
-noAlarm = alarm (pos 0) false 0
-
+-- settings of no alarm, which stand beyond those of the last
 abbrev pub noSettings : Settings
 noSettings = record { hysteresis = pos 0; «on_delay» = pos 0; «off_delay» = pos 0; «low_acting» = false; latched = false }
-
--- alarm i after a sample
-abbrev pub sampledAt : List Settings → List Alarm → Reading → ℕ → Alarm
-sampledAt settings alarms r i = sampled (getD settings i noSettings) (getD alarms i noAlarm) r
-
-unfoldable pub allSampled : List Settings → List Alarm → Reading → List Alarm
-allSampled settings alarms r =
-    sampledAt settings alarms r 0
-    ∷ sampledAt settings alarms r 1
-    ∷ sampledAt settings alarms r 2
-    ∷ sampledAt settings alarms r 3
-    ∷ []

@@ -1,8 +1,8 @@
-// Alarms: one alarm through a sample, a reset and a written setpoint, and four of them.
+// One alarm: through a sample, a reset and a written setpoint.
 use reading::Reading;
 use run::Run;
 ghost use mathlib.Core.Path.{_≡_};
-ghost use Rattle.alarm.specs.Alarm.{above, below, atMost, atLeast, onCondition, offCondition, awaited, delay, moved, sampled, reset, written, allSampled};
+ghost use Rattle.alarm.specs.Alarm.{above, below, onCondition, offCondition, awaited, delay, off, moved, sampled, reset, written};
 
 // What the configuration says of an alarm, with the delays in tenths of a second.
 pub struct Settings {
@@ -43,28 +43,6 @@ fn below(reading: Reading, z: i64) -> bool
     }
 }
 
-fn at_most(reading: Reading, z: i64) -> bool
-    ensures { λ r. ⌜ r ≡ atMost reading z ⌝ }
-{
-    match reading {
-        Reading::Nothing => false,
-        Reading::Under => true,
-        Reading::Number(v) => v as i64 <= z,
-        Reading::Over => false,
-    }
-}
-
-fn at_least(reading: Reading, z: i64) -> bool
-    ensures { λ r. ⌜ r ≡ atLeast reading z ⌝ }
-{
-    match reading {
-        Reading::Nothing => false,
-        Reading::Under => false,
-        Reading::Number(v) => v as i64 >= z,
-        Reading::Over => true,
-    }
-}
-
 fn on_condition(s: Settings, a: Alarm, reading: Reading) -> bool
     ensures { λ r. ⌜ r ≡ onCondition s a reading ⌝ }
 {
@@ -76,15 +54,16 @@ fn on_condition(s: Settings, a: Alarm, reading: Reading) -> bool
     }
 }
 
+// At most z is below z + 1, and at least z is above z - 1.
 fn off_condition(s: Settings, a: Alarm, reading: Reading) -> bool
     ensures { λ r. ⌜ r ≡ offCondition s a reading ⌝ }
 {
     let setpoint = a.setpoint as i64;
     let hysteresis = s.hysteresis as i64;
     if s.low_acting {
-        at_least(reading, setpoint + hysteresis)
+        above(reading, setpoint + hysteresis - 1)
     } else {
-        at_most(reading, setpoint - hysteresis)
+        below(reading, setpoint - hysteresis + 1)
     }
 }
 
@@ -108,6 +87,17 @@ fn delay(s: Settings, a: Alarm) -> i32
     ensures { λ r. ⌜ r ≡ delay s a ⌝ }
 {
     if a.on { s.off_delay } else { s.on_delay }
+}
+
+// An alarm at power-up: off, with its setpoint.
+pub fn off(setpoint: i32) -> Alarm
+    ensures { λ r. ⌜ r ≡ off setpoint ⌝ }
+{
+    Alarm {
+        setpoint,
+        on: false,
+        run: 0,
+    }
 }
 
 // What a run makes of the alarm: complete, it changes the state.
@@ -145,11 +135,7 @@ pub fn sampled(s: Settings, a: Alarm, reading: Reading) -> Alarm
 pub fn reset(a: Alarm) -> Alarm
     ensures { λ r. ⌜ r ≡ reset a ⌝ }
 {
-    Alarm {
-        setpoint: a.setpoint,
-        on: false,
-        run: 0,
-    }
+    off(a.setpoint)
 }
 
 // A written setpoint: the present value changes nothing, a new one makes the run 0 and leaves the state.
@@ -165,15 +151,4 @@ pub fn written(a: Alarm, setpoint: i32) -> Alarm
             run: 0,
         }
     }
-}
-
-// One sample of all four.
-pub fn all_sampled(settings: [Settings; 4], alarms: [Alarm; 4], reading: Reading) -> [Alarm; 4]
-    ensures { λ r. ⌜ r ≡ allSampled settings alarms reading ⌝ }
-{
-    let a = sampled(settings[0], alarms[0], reading);
-    let b = sampled(settings[1], alarms[1], reading);
-    let c = sampled(settings[2], alarms[2], reading);
-    let d = sampled(settings[3], alarms[3], reading);
-    [a, b, c, d]
 }

@@ -1,8 +1,8 @@
--- `alarm::all_sampled` meets its contract: what each of the four calls ensures, put together. Assumes nothing.
+-- `alarms::all_sampled` meets its contract: what each of the four calls ensures, put together. Assumes nothing.
 use borrow.Author.Needs.{needs}
-use Rattle.alarm.specs.Alarm.{allSampled}
-use Rattle.alarm.proofs.all_sampled.Statement.{statement}
-use Rattle.alarm.proofs.all_sampled.Tie as tie
+use Rattle.alarms.specs.Alarms.{allSampled}
+use Rattle.alarms.proofs.all_sampled.Statement.{statement}
+use Rattle.alarms.proofs.all_sampled.Tie as tie
 
 array-copy-out-sampled : tie.Need-array-copy-out-sampled
 array-copy-out-sampled c = search needs

@@ -1,0 +1,4 @@
+pub mod Four
+pub mod Laws
+pub mod Bits
+pub mod Soundness

@@ -1,0 +1,2 @@
+pub mod Alarms
+pub mod Meaning
