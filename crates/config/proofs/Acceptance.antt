@@ -24,11 +24,11 @@ module _ (c : Config) (a : judged c ≡ Accepted) where
   unfolding rules
   rule k h = accepted c .0 a .kept k h
 
-  pub node-in : nodeRule (c .node) ≡ true
+  pub node-in : nodeRule (c .talking .node) ≡ true
   unfolding rules
   node-in = rule 0 (omega arith)
 
-  pub places-in : placesRule (c .places) ≡ true
+  pub places-in : placesRule (c .talking .places) ≡ true
   unfolding rules
   places-in = rule 1 (omega arith)
 
@@ -44,16 +44,16 @@ module _ (c : Config) (a : judged c ≡ Accepted) where
   unfolding rules
   points-in = rule 4 (omega arith)
 
-  pub total-in : totalRule (c .totalizer) ≡ true
+  pub total-in : totalRule (c .working .totalizer) ≡ true
   unfolding rules
   total-in = rule 5 (omega arith)
 
-  pub analog-in : analogRule (c .analog) ≡ true
+  pub analog-in : analogRule (c .working .analog) ≡ true
   unfolding rules
   analog-in = rule 9 (omega arith)
 
   -- the scale is one that an input can be read on
-  pub scale-accepted : scaling.Accepted (c .scale .inputs) (c .scale .displays) (natAbs (c .scale .count)) (c .scale .step)
+  pub scale-accepted : scaling.Scalable (c .scale .inputs) (c .scale .displays) (natAbs (c .scale .count)) (c .scale .step)
   scale-accepted =
       let s = c .scale in
       let count = from-to (s .count) 2 16 count-in in
@@ -61,16 +61,16 @@ module _ (c : Config) (a : judged c ≡ Accepted) where
       (among-rule (within (pos 1) (pos 100)) (s .step) steps 0 refl step-in)
 
   -- the factor is 1 to 65,000 and the time base 1 to 86,400
-  pub factor-in : within (pos 1) (pos 65000) (c .totalizer .factor) ≡ true
-  factor-in = both (within (pos 1) (pos 65000) (c .totalizer .factor)) (among (c .totalizer .«time_base») timeBases) total-in .0
+  pub factor-in : within (pos 1) (pos 65000) (c .working .totalizer .factor) ≡ true
+  factor-in = both (within (pos 1) (pos 65000) (c .working .totalizer .factor)) (among (c .working .totalizer .«time_base») timeBases) total-in .0
 
-  pub time-base-in : within (pos 1) (pos 86400) (c .totalizer .«time_base») ≡ true
+  pub time-base-in : within (pos 1) (pos 86400) (c .working .totalizer .«time_base») ≡ true
   time-base-in =
-      among-rule (within (pos 1) (pos 86400)) (c .totalizer .«time_base») timeBases 0 refl
-      (both (within (pos 1) (pos 65000) (c .totalizer .factor)) (among (c .totalizer .«time_base») timeBases) total-in .1)
+      among-rule (within (pos 1) (pos 86400)) (c .working .totalizer .«time_base») timeBases 0 refl
+      (both (within (pos 1) (pos 65000) (c .working .totalizer .factor)) (among (c .working .totalizer .«time_base») timeBases) total-in .1)
 
   -- the analog displays differ
-  pub analog-differs : eqZ (c .analog .low) (c .analog .high) ≡ false
+  pub analog-differs : eqZ (c .working .analog .low) (c .working .analog .high) ≡ false
   analog-differs =
-      turned-true (eqZ (c .analog .low) (c .analog .high))
-      (both (inDisplay (c .analog .low) && inDisplay (c .analog .high)) (not (eqZ (c .analog .low) (c .analog .high))) analog-in .1)
+      turned-true (eqZ (c .working .analog .low) (c .working .analog .high))
+      (both (inDisplay (c .working .analog .low) && inDisplay (c .working .analog .high)) (not (eqZ (c .working .analog .low) (c .working .analog .high))) analog-in .1)

@@ -1,5 +1,5 @@
 -- The ten rules of a configuration, in document 01's order.
-use mathlib.Core.Bool.{Bool, false, cond, not, _&&_}
+use mathlib.Core.Bool.{Bool, cond, not, _&&_}
 use mathlib.Core.List.{List, [], _∷_}
 use Prim.Native.Nat.{ℕ, suc}
 use lib.IntN.{ℤ, pos, natAbs}
@@ -8,6 +8,7 @@ use Rattle.exact.specs.Sign.{eqZ, within}
 use Rattle.exact.specs.Tables.{steps, among}
 use Rattle.reading.specs.Reading.{inDisplay, pointsIn}
 use Rattle.total.specs.declared.Totalizer.{Totalizer}
+use Rattle.alarm.specs.Alarm.{noSettings}
 use Rattle.alarm.specs.declared.Settings.{Settings}
 use Rattle.config.specs.declared.Places.{Places}
 use Rattle.config.specs.declared.Scale.{Scale}
@@ -57,9 +58,6 @@ unfoldable pub alarmRule : ℤ → Settings → Bool
 alarmRule setpoint s =
     inDisplay setpoint && within (pos 1) (pos 9999) (s .hysteresis) && delayIn (s .«on_delay») && delayIn (s .«off_delay»)
 
-abbrev pub noSettings : Settings
-noSettings = record { hysteresis = pos 0; «on_delay» = pos 0; «off_delay» = pos 0; «low_acting» = false; latched = false }
-
 abbrev pub alarmRuleAt : List ℤ → List Settings → ℕ → Bool
 alarmRuleAt setpoints alarms i = alarmRule (getD setpoints i (pos 0)) (getD alarms i noSettings)
 
@@ -79,16 +77,16 @@ analogRule a = inDisplay (a .low) && inDisplay (a .high) && not (eqZ (a .low) (a
 
 unfoldable pub rules : Config → List Bool
 rules c =
-    nodeRule (c .node)
-    ∷ placesRule (c .places)
+    nodeRule (c .talking .node)
+    ∷ placesRule (c .talking .places)
     ∷ stepRule (c .scale)
     ∷ countRule (c .scale)
     ∷ pointsRule (c .scale)
-    ∷ totalRule (c .totalizer)
-    ∷ lowCutRule (c .totalizer)
-    ∷ alarmsRule (c .setpoints) (c .alarms)
-    ∷ captureRule (c .capture)
-    ∷ analogRule (c .analog)
+    ∷ totalRule (c .working .totalizer)
+    ∷ lowCutRule (c .working .totalizer)
+    ∷ alarmsRule (c .setpoints) (c .working .alarms)
+    ∷ captureRule (c .working .capture)
+    ∷ analogRule (c .working .analog)
     ∷ []
 
 -- of rules that count from n the first that is broken is reported

@@ -1,9 +1,12 @@
 // The configuration as it is given, whatever its numbers, and the ten rules that it is judged by.
 use alarm::Settings;
+use register::Print;
 use total::Totalizer;
 ghost use mathlib.Core.Path.{_≡_};
 ghost use mathlib.Core.Bool.{true};
+ghost use Rattle.alarm.specs.Alarm.{noSettings};
 ghost use Rattle.config.specs.Config.{placesRule, countRule, pointsRule, totalRule, alarmRule, alarmsRule, analogRule, judged};
+ghost use Rattle.config.specs.Bench.{nothing, benchMeter};
 
 // Decimal places of the input and of the total.
 pub struct Places {
@@ -25,26 +28,29 @@ pub struct Analog {
     pub high: i32,
 }
 
-// What a block print shows.
-pub struct Print {
-    pub input: bool,
-    pub extremes: bool,
-    pub total: bool,
-    pub setpoints: bool,
+// What works on a reading: the totalizer, the capture time of max and min in tenths of a second, the four alarms, the analog code.
+pub struct Working {
+    pub totalizer: Totalizer,
+    pub capture: i32,
+    pub alarms: [Settings; 4],
+    pub analog: Analog,
 }
 
-// A configuration: every number is a signed 32-bit one, so that any value can be given and refused.
-pub struct Config {
+// What talks: the node, the decimal places, whether lines are abbreviated, and what a block prints.
+pub struct Talking {
     pub node: i32,
     pub places: Places,
-    pub scale: Scale,
-    pub totalizer: Totalizer,
-    pub setpoints: [i32; 4],
-    pub alarms: [Settings; 4],
-    pub capture: i32,
-    pub analog: Analog,
     pub abbreviated: bool,
     pub print: Print,
+}
+
+// A configuration, by who reads it: the scale, what works on a reading, what talks, and the setpoints that the alarms start with. Every
+// number is a signed 32-bit one, so that any value can be given and refused.
+pub struct Config {
+    pub scale: Scale,
+    pub working: Working,
+    pub talking: Talking,
+    pub setpoints: [i32; 4],
 }
 
 // What the rules say: all kept, or the number of the first that is broken.
@@ -114,13 +120,15 @@ fn analog_rule(a: Analog) -> bool
 pub fn judged(c: Config) -> Verdict
     ensures { λ r. ⌜ r ≡ judged c ⌝ }
 {
-    let places = c.places;
     let scale = c.scale;
-    let totalizer = c.totalizer;
+    let working = c.working;
+    let talking = c.talking;
     let setpoints = c.setpoints;
-    let alarms = c.alarms;
-    let analog = c.analog;
-    if !exact::is_within(c.node, 0, 99) {
+    let places = talking.places;
+    let totalizer = working.totalizer;
+    let alarms = working.alarms;
+    let analog = working.analog;
+    if !exact::is_within(talking.node, 0, 99) {
         return Verdict::Broken(1);
     }
     if !places_rule(places) {
@@ -144,11 +152,99 @@ pub fn judged(c: Config) -> Verdict
     if !alarms_rule(setpoints, alarms) {
         return Verdict::Broken(8);
     }
-    if !exact::is_within(c.capture, 0, 32750) {
+    if !exact::is_within(working.capture, 0, 32750) {
         return Verdict::Broken(9);
     }
     if !analog_rule(analog) {
         return Verdict::Broken(10);
     }
     Verdict::Accepted
+}
+
+// An alarm with no hysteresis, no delay and nothing set.
+fn no_settings() -> Settings
+    ensures { λ r. ⌜ r ≡ noSettings ⌝ }
+{
+    Settings {
+        hysteresis: 0,
+        on_delay: 0,
+        off_delay: 0,
+        low_acting: false,
+        latched: false,
+    }
+}
+
+// A configuration with nothing in it, which a program may start from: it has no points to scale by.
+pub fn nothing() -> Config
+    ensures { λ r. ⌜ r ≡ nothing ⌝ }
+{
+    let settings = no_settings();
+    Config {
+        scale: Scale {
+            step: 0,
+            count: 0,
+            inputs: [0; 16],
+            displays: [0; 16],
+        },
+        working: Working {
+            totalizer: Totalizer {
+                batch: false,
+                low_cut: 0,
+                factor: 0,
+                time_base: 0,
+            },
+            capture: 0,
+            alarms: [settings; 4],
+            analog: Analog { low: 0, high: 0 },
+        },
+        talking: Talking {
+            node: 0,
+            places: Places { input: 0, total: 0 },
+            abbreviated: false,
+            print: Print {
+                input: false,
+                extremes: false,
+                total: false,
+                setpoints: false,
+            },
+        },
+        setpoints: [0; 4],
+    }
+}
+
+// Document 01's bench meter.
+pub fn bench() -> Config
+    ensures { λ r. ⌜ r ≡ benchMeter ⌝ }
+{
+    let mut settings = no_settings();
+    settings.hysteresis = 1;
+    let mut c = nothing();
+    let mut scale = c.scale;
+    scale.step = 1;
+    scale.count = 2;
+    scale.inputs[1] = 1000;
+    scale.displays[1] = 2000;
+    let working = Working {
+        totalizer: Totalizer {
+            batch: false,
+            low_cut: -19999,
+            factor: 1000,
+            time_base: 60,
+        },
+        capture: 0,
+        alarms: [settings; 4],
+        analog: Analog {
+            low: 0,
+            high: 10000,
+        },
+    };
+    let places = Places { input: 1, total: 0 };
+    let mut talking = c.talking;
+    talking.node = 5;
+    talking.places = places;
+    c.scale = scale;
+    c.working = working;
+    c.talking = talking;
+    c.setpoints = [100, 200, 300, 400];
+    c
 }

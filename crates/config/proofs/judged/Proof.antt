@@ -15,17 +15,17 @@ use Rattle.config.proofs.judged.Tie as tie
 -- ---- the configuration at each call, and what the call tells of its rule
 
 abbrev config1 : tie.After-is-within → Config
-config1 c = c .before .before .before .before .before .before .before .before .args .c
+config1 c = c .before .before .before .before .before .before .before .before .before .before .args .c
 
-test1 : (c : tie.After-is-within) → c .is-within .result ≡ nodeRule (config1 c .node)
+test1 : (c : tie.After-is-within) → c .is-within .result ≡ nodeRule (config1 c .talking .node)
 test1 c =
-    let e : toZ w32 (ofZ w32 (config1 c .node)) ≡ config1 c .node = search needs in
+    let e : toZ w32 (ofZ w32 (config1 c .talking .node)) ≡ config1 c .talking .node = search needs in
     c .is-within .ensures ∙ rw e
 
 abbrev config2 : tie.After-places-rule → Config
 config2 c = config1 (c .before .before)
 
-test2 : (c : tie.After-places-rule) → c .places-rule .result ≡ placesRule (config2 c .places)
+test2 : (c : tie.After-places-rule) → c .places-rule .result ≡ placesRule (config2 c .talking .places)
 test2 c = c .places-rule .ensures
 
 abbrev config3 : tie.After-is-step → Config
@@ -53,35 +53,35 @@ test5 c = c .points-rule .ensures
 abbrev config6 : tie.After-total-rule → Config
 config6 c = config5 (c .before .before)
 
-test6 : (c : tie.After-total-rule) → c .total-rule .result ≡ totalRule (config6 c .totalizer)
+test6 : (c : tie.After-total-rule) → c .total-rule .result ≡ totalRule (config6 c .working .totalizer)
 test6 c = c .total-rule .ensures
 
 abbrev config7 : tie.After-is-within3 → Config
 config7 c = config6 (c .before .before .before)
 
-test7 : (c : tie.After-is-within3) → c .is-within3 .result ≡ lowCutRule (config7 c .totalizer)
+test7 : (c : tie.After-is-within3) → c .is-within3 .result ≡ lowCutRule (config7 c .working .totalizer)
 test7 c =
-    let e : toZ w32 (ofZ w32 (config7 c .totalizer .«low_cut»)) ≡ config7 c .totalizer .«low_cut» = search needs in
+    let e : toZ w32 (ofZ w32 (config7 c .working .totalizer .«low_cut»)) ≡ config7 c .working .totalizer .«low_cut» = search needs in
     c .is-within3 .ensures ∙ rw e
 
 abbrev config8 : tie.After-alarms-rule → Config
 config8 c = config7 (c .before .before)
 
-test8 : (c : tie.After-alarms-rule) → c .alarms-rule .result ≡ alarmsRule (config8 c .setpoints) (config8 c .alarms)
+test8 : (c : tie.After-alarms-rule) → c .alarms-rule .result ≡ alarmsRule (config8 c .setpoints) (config8 c .working .alarms)
 test8 c = c .alarms-rule .ensures
 
 abbrev config9 : tie.After-is-within4 → Config
 config9 c = config8 (c .before .before .before)
 
-test9 : (c : tie.After-is-within4) → c .is-within4 .result ≡ captureRule (config9 c .capture)
+test9 : (c : tie.After-is-within4) → c .is-within4 .result ≡ captureRule (config9 c .working .capture)
 test9 c =
-    let e : toZ w32 (ofZ w32 (config9 c .capture)) ≡ config9 c .capture = search needs in
+    let e : toZ w32 (ofZ w32 (config9 c .working .capture)) ≡ config9 c .working .capture = search needs in
     c .is-within4 .ensures ∙ rw e
 
 abbrev config10 : tie.After-analog-rule → Config
 config10 c = config9 (c .before .before)
 
-test10 : (c : tie.After-analog-rule) → c .analog-rule .result ≡ analogRule (config10 c .analog)
+test10 : (c : tie.After-analog-rule) → c .analog-rule .result ≡ analogRule (config10 c .working .analog)
 test10 c = c .analog-rule .ensures
 
 -- ---- past a rule that is kept
