@@ -1,7 +1,8 @@
-pub mod Limits
-pub mod Keys
 pub mod Permits
-pub mod Outputs
-pub mod Soundness
-pub mod Cases
+pub mod Keys
 pub mod Registers
+pub mod Modes
+pub mod Soundness
+pub mod Scale
+pub mod Sizes
+pub mod Cases

@@ -1,48 +1,43 @@
 -- Which numbers may be written. Assumes nothing.
-use mathlib.Core.Path.{_≡_, refl, sym}
+use mathlib.Core.Path.{_≡_, refl}
 use mathlib.Core.Bool.{Bool, true, false, cond, _&&_}
 use Prim.Native.Nat.{ℕ}
 use lib.Dec.{eqb}
 use lib.IntN.{ℤ}
 use Rattle.exact.proofs.Z.{never}
+use Rattle.register.specs.Registers.{at}
 use Rattle.reading.specs.Reading.{inDisplay}
-use Rattle.instrument.specs.Instrument.{automatic, inCode, setpointPermit, codePermit, permit}
+use Rattle.outputs.specs.Outputs.{automatic, inCode, codePermit}
+use Rattle.outputs.specs.declared.Mode.{Mode}
+use Rattle.outputs.specs.declared.Permit.{Permit}
+use Rattle.outputs.specs.declared.Permit.the-variants.{Allowed, OutOfRange, InAutomatic}
+use Rattle.instrument.specs.Instrument.{setpointPermit, permit}
 use Rattle.instrument.specs.Meaning.{numberIn, shut, Judged}
-use Rattle.instrument.specs.declared.Mode.{Mode}
-use Rattle.instrument.specs.declared.Permit.{Permit}
-use Rattle.instrument.specs.declared.Permit.the-variants.{Allowed, OutOfRange, InAutomatic}
 
 -- the tests of a permit: whether it is for the analog register, the code's range, automatic mode, the display range
 abbrev by : Bool → Bool → Bool → Bool → Permit
 by analog code auto display = cond analog (cond code (cond auto InAutomatic Allowed) OutOfRange) (cond display Allowed OutOfRange)
 
 out : (a c m d : Bool) → cond a c d ≡ false → by a c m d ≡ OutOfRange
-out true true m d e = never (sym e)
-out true false m d e = refl
-out false c m true e = never (sym e)
-out false c m false e = refl
+out true c m d e = rw e
+out false c m d e = rw e
 
 shuts : (a c m d : Bool) → cond a c d ≡ true → (a && m) ≡ true → by a c m d ≡ InAutomatic
-shuts true true true d e s = refl
-shuts true true false d e s = never s
-shuts true false m d e s = never e
+shuts true c m d e s = rw (e, s)
 shuts false c m d e s = never s
 
 allows : (a c m d : Bool) → cond a c d ≡ true → (a && m) ≡ false → by a c m d ≡ Allowed
-allows true true true d e s = never (sym s)
-allows true true false d e s = refl
-allows true false m d e s = never e
-allows false c m true e s = refl
-allows false c m false e s = never e
+allows true c m d e s = rw (e, s)
+allows false c m d e s = rw e
 
 -- the range is judged first (7), then the analog register in automatic mode (8), and every other number is allowed
 pub judged : (mode : Mode) (r : ℕ) (z : ℤ) → Judged mode r z
 unfolding permit codePermit setpointPermit
 judged mode r z =
     record {
-      out = out (eqb r 8) (inCode z) (automatic mode) (inDisplay z);
-      shuts = shuts (eqb r 8) (inCode z) (automatic mode) (inDisplay z);
-      allows = allows (eqb r 8) (inCode z) (automatic mode) (inDisplay z);
+      out = out (eqb r (at "I")) (inCode z) (automatic mode) (inDisplay z);
+      shuts = shuts (eqb r (at "I")) (inCode z) (automatic mode) (inDisplay z);
+      allows = allows (eqb r (at "I")) (inCode z) (automatic mode) (inDisplay z);
     }
 
 only : (a c m d : Bool) → by a c m d ≡ Allowed → (cond a c d ≡ true) × ((a && m) ≡ false)
@@ -55,4 +50,4 @@ only false c m false e = let z : _≡_ {A = Bool} false true = cc in never z
 -- and no other: an allowed number is in its register's range, and not one for the analog register in automatic mode
 pub allowed-only : (mode : Mode) (r : ℕ) (z : ℤ) → permit mode r z ≡ Allowed → (numberIn r z ≡ true) × (shut mode r ≡ false)
 unfolding permit codePermit setpointPermit
-allowed-only mode r z = only (eqb r 8) (inCode z) (automatic mode) (inDisplay z)
+allowed-only mode r z = only (eqb r (at "I")) (inCode z) (automatic mode) (inDisplay z)

@@ -2,84 +2,71 @@
 use borrow.Author.Tests.{ne-eqb}
 use native.Mathlib.Omega.{arith}
 use mathlib.Core.Path.{_≡_, refl, ap, _∙_}
-use mathlib.Core.Bool.{Bool, true, false, cond}
-use Prim.Native.Nat.{ℕ, _+_, _-_, _<_}
+use Prim.Native.Nat.{ℕ, _+_, _<_}
 use lib.Dec.{eqb}
-use lib.IntN.{ℤ, pos}
+use lib.IntN.{ℤ}
 use lib.ListN.{length}
-use lib.Seq.{getD-set-same, getD-set-other, set-getD}
-use Rattle.alarm.specs.Alarm as alarms
-use Rattle.alarm.specs.declared.Alarm.{Alarm}
-use Rattle.alarm.proofs.Laws as alarm-laws
-use Rattle.instrument.specs.Instrument.{off, alarmAt, withAlarms, withOutputs, withAlarm, resetTotal, resetMax, resetMin, resetAlarm, resetRegister, writeSetpoint, writeRegister}
+use Rattle.exact.proofs.Z.{either}
+use Rattle.register.specs.Registers.{at}
+use Rattle.alarm.specs.Alarm.{alarm, reset}
+use Rattle.alarms.specs.Alarms.{alarmAt, resetAt, writtenAt, setpointOf}
+use Rattle.alarms.proofs.Laws as alarms
+use Rattle.config.specs.declared.Working.{Working}
+use Rattle.outputs.specs.Outputs.{writeCode}
+use Rattle.instrument.specs.Instrument.{withAlarms, withOutputs, alarmOf, resetRegister, writeRegister}
 use Rattle.instrument.specs.Meaning.{OneAlarm}
 use Rattle.instrument.specs.declared.Instrument.{Instrument}
 
 -- ---- one alarm
 
--- an alarm put in its place is there, and all else stands
-put : (i : Instrument) (k : ℕ) (a : Alarm) → k < length (i .alarms) → OneAlarm i (withAlarm i k a) k a
-put i k a h =
-    record {
-      measured = record { reading = refl; total = refl; max = refl; min = refl };
-      own = getD-set-same (i .alarms) k a (off (pos 0)) h;
-      others = λ j n. getD-set-other (i .alarms) k j a (off (pos 0)) n;
-      code = refl;
-      mode = refl;
-    }
+module _ (w : Working) (i : Instrument) (k : ℕ) (h : k < 4) where
+  -- the k-th register from E is alarm k's
+  own : alarmOf (at "E" + k) ≡ k
+  own = omega arith
 
-module _ (i : Instrument) (k : ℕ) (h : k < 4) where
-  -- the register at place 4 + k is alarm k's
-  pub reset-is : resetRegister i (4 + k) ≡ resetAlarm i k
+  pub reset-is : resetRegister w i (at "E" + k) ≡ withAlarms i (resetAt (i .alarms) k)
   unfolding resetRegister
   reset-is =
-      rw (ne-eqb (4 + k) 1 (λ e. omega arith), ne-eqb (4 + k) 2 (λ e. omega arith), ne-eqb (4 + k) 3 (λ e. omega arith))
-      (ap (resetAlarm i) (omega arith))
+      rw (
+        ne-eqb (at "E" + k) (at "B") (λ e. omega arith),
+        ne-eqb (at "E" + k) (at "C") (λ e. omega arith),
+        ne-eqb (at "E" + k) (at "D") (λ e. omega arith),
+        own,
+      )
 
   -- for V as for R
-  pub write-is : (z : ℤ) → writeRegister i (4 + k) z ≡ writeSetpoint i k z
+  pub write-is : (z : ℤ) → writeRegister w i (at "E" + k) z ≡ withAlarms i (writtenAt (i .alarms) k z)
   unfolding writeRegister
-  write-is z =
-      let n : 4 + k - 4 ≡ k = omega arith in
-      rw (ne-eqb (4 + k) 8 (λ e. omega arith), n)
+  write-is z = rw (ne-eqb (at "E" + k) (at "I") (λ e. omega arith), own)
 
   -- a setpoint's present value changes nothing
-  pub present-setpoint : writeRegister i (4 + k) (alarmAt (i .alarms) k .setpoint) ≡ i
-  present-setpoint =
-      write-is (alarmAt (i .alarms) k .setpoint)
-      ∙ ap (withAlarm i k) (alarm-laws.same-setpoint (alarmAt (i .alarms) k))
-      ∙ ap (withAlarms i) (set-getD (i .alarms) k (off (pos 0)))
+  pub present-setpoint : writeRegister w i (at "E" + k) (setpointOf (i .alarms) k) ≡ i
+  present-setpoint = write-is (setpointOf (i .alarms) k) ∙ ap (withAlarms i) (alarms.present-setpoint (i .alarms) k)
 
-  module _ (four : length (i .alarms) ≡ 4) where
+  module _ (all : length (i .alarms) ≡ 4) where
     -- RE to RH reset one alarm and touch nothing else, in either mode
-    pub reset-one : OneAlarm i (resetRegister i (4 + k)) k (alarms.reset (alarmAt (i .alarms) k))
-    reset-one = rw reset-is (put i k (alarms.reset (alarmAt (i .alarms) k)) (omega arith))
+    pub reset-one : OneAlarm i (resetRegister w i (at "E" + k)) k (reset (alarmAt (i .alarms) k))
+    reset-one = rw reset-is (record { measured = refl; alarms = alarms.reset-one (i .alarms) k all h; outputs = refl })
 
     -- a new setpoint makes that alarm's run 0 and leaves its state and all else
-    pub new-setpoint : (z : ℤ) → (z ≡ alarmAt (i .alarms) k .setpoint → ⊥) → OneAlarm i (writeRegister i (4 + k) z) k (alarms.alarm z (alarmAt (i .alarms) k .on) 0)
+    pub new-setpoint : (z : ℤ) → (z ≡ setpointOf (i .alarms) k → ⊥) → OneAlarm i (writeRegister w i (at "E" + k) z) k (alarm z (alarmAt (i .alarms) k .on) 0)
     new-setpoint z n =
-        rw (write-is z, alarm-laws.new-setpoint (alarmAt (i .alarms) k) z n)
-        (put i k (alarms.alarm z (alarmAt (i .alarms) k .on) 0) (omega arith))
+        rw (write-is z) (record { measured = refl; alarms = alarms.new-setpoint (i .alarms) k all h z n; outputs = refl })
 
 -- ---- the analog register
 
 -- a written code is the only change
-pub write-code-only : (i : Instrument) (z : ℤ) → writeRegister i 8 z ≡ withOutputs i z (i .mode)
+pub write-code-only : (w : Working) (i : Instrument) (z : ℤ) → writeRegister w i (at "I") z ≡ withOutputs i (writeCode (i .outputs) z)
 unfolding writeRegister
-write-code-only i z = refl
+write-code-only w i z = refl
 
 -- ---- what R leaves, whatever the register
 
--- the reading, the code and the mode stand
-pub reset-leaves : (i : Instrument) (r : ℕ) → (resetRegister i r .reading ≡ i .reading) × ((resetRegister i r .code ≡ i .code) × (resetRegister i r .mode ≡ i .mode))
+-- the reading and the outputs stand
+pub reset-leaves : (w : Working) (i : Instrument) (r : ℕ) → (resetRegister w i r .measured .reading ≡ i .measured .reading) × (resetRegister w i r .outputs ≡ i .outputs)
 unfolding resetRegister
-reset-leaves i r = go (eqb r 1) (eqb r 2) (eqb r 3)
-  where
-    chosen : Bool → Bool → Bool → Instrument
-    chosen a b c = cond a (resetTotal i) (cond b (resetMax i) (cond c (resetMin i) (resetAlarm i (r - 4))))
-
-    go : (a b c : Bool) → (chosen a b c .reading ≡ i .reading) × ((chosen a b c .code ≡ i .code) × (chosen a b c .mode ≡ i .mode))
-    go true b c = (refl, (refl, refl))
-    go false true c = (refl, (refl, refl))
-    go false false true = (refl, (refl, refl))
-    go false false false = (refl, (refl, refl))
+reset-leaves w i r =
+    let stands : Instrument → Type 0 = λ n. (n .measured .reading ≡ i .measured .reading) × (n .outputs ≡ i .outputs) in
+    either stands (eqb r (at "B")) (refl, refl)
+    (either stands (eqb r (at "C")) (refl, refl)
+    (either stands (eqb r (at "D")) (refl, refl) (refl, refl)))

@@ -1,41 +1,43 @@
 -- What keys, V and R come to, said without their definitions' way of working it out.
 use mathlib.Core.Path.{_≡_}
-use mathlib.Core.Bool.{Bool, true, false, cond, not, _&&_}
-use mathlib.Core.List.{List}
-use Prim.Native.Nat.{ℕ, _%_, _<_}
+use mathlib.Core.Bool.{Bool, true, false, cond, _&&_}
+use Prim.Native.Nat.{ℕ, _%_}
 use lib.Dec.{eqb}
 use lib.IntN.{ℤ}
-use lib.ListN.{length}
+use Rattle.register.specs.Registers.{at}
 use Rattle.reading.specs.Reading.{inDisplay}
-use Rattle.alarm.specs.Alarm as alarms
 use Rattle.alarm.specs.declared.Alarm.{Alarm}
-use Rattle.analog.specs.Analog.{codeOf}
-use Rattle.config.specs.declared.Analog.{Analog}
-use Rattle.instrument.specs.Instrument.{alarmAt, resetTotal, resetMax, resetMin, resetAlarms, resetRegister, automatic, inCode, permit, bit}
+use Rattle.alarms.specs.Meaning as alarms
+use Rattle.config.specs.declared.Working.{Working}
+use Rattle.measured.specs.Measured as measured
+use Rattle.measured.specs.Sound as measured-sound
+use Rattle.outputs.specs.Outputs.{automatic, inCode, codeBy}
+use Rattle.outputs.specs.Meaning as outputs-sound
+use Rattle.outputs.specs.declared.Mode.{Mode}
+use Rattle.outputs.specs.declared.Mode.the-variants.{Automatic, Manual}
+use Rattle.outputs.specs.declared.Permit.the-variants.{Allowed, OutOfRange, InAutomatic}
+use Rattle.instrument.specs.Instrument.{withMeasured, resetRegister, resetAlarms, permit}
 use Rattle.instrument.specs.declared.Instrument.{Instrument}
-use Rattle.instrument.specs.declared.Mode.{Mode}
-use Rattle.instrument.specs.declared.Mode.the-variants.{Automatic, Manual}
-use Rattle.instrument.specs.declared.Permit.the-variants.{Allowed, OutOfRange, InAutomatic}
 
--- ---- keys 2 to 5 act as the R strings do
+-- ---- R by its letter, and keys 2 to 5, which act as the R strings do
 
-pub record Keys (i : Instrument) : Type 0 where
-  -- key 2 is RB, key 3 RC, key 4 RD
-  pub total : resetTotal i ≡ resetRegister i 1
-  pub max : resetMax i ≡ resetRegister i 2
-  pub min : resetMin i ≡ resetRegister i 3
+pub record Keys (w : Working) (i : Instrument) : Type 0 where
+  -- RB is what key 2 does, RC key 3, RD key 4
+  pub total : resetRegister w i (at "B") ≡ withMeasured i (measured.resetTotal (i .measured))
+  pub max : resetRegister w i (at "C") ≡ withMeasured i (measured.resetMax (i .measured))
+  pub min : resetRegister w i (at "D") ≡ withMeasured i (measured.resetMin (i .measured))
   -- key 5 is RE, RF, RG and RH in turn
-  pub alarms : resetAlarms i ≡ resetRegister (resetRegister (resetRegister (resetRegister i 4) 5) 6) 7
+  pub alarms : resetAlarms w i ≡ resetRegister w (resetRegister w (resetRegister w (resetRegister w i (at "E")) (at "F")) (at "G")) (at "H")
 
 -- ---- a V number: out of range first (7), then the analog register in automatic mode (8)
 
--- the range of the register that is written: 0 to 4,095 at I (8), the display range at E to H
+-- the range of the register that is written: 0 to 4,095 at I, the display range at E to H
 abbrev pub numberIn : ℕ → ℤ → Bool
-numberIn r z = cond (eqb r 8) (inCode z) (inDisplay z)
+numberIn r z = cond (eqb r (at "I")) (inCode z) (inDisplay z)
 
 -- the analog register is shut in automatic mode
 abbrev pub shut : Mode → ℕ → Bool
-shut mode r = eqb r 8 && automatic mode
+shut mode r = eqb r (at "I") && automatic mode
 
 pub record Judged (mode : Mode) (r : ℕ) (z : ℤ) : Type 0 where
   pub out : numberIn r z ≡ false → permit mode r z ≡ OutOfRange
@@ -44,45 +46,29 @@ pub record Judged (mode : Mode) (r : ℕ) (z : ℤ) : Type 0 where
 
 -- ---- V and R of one alarm, and VJ with byte b, make n of i
 
--- what none of them touches
-pub record SameMeasured (i n : Instrument) : Type 0 where
-  pub reading : n .reading ≡ i .reading
-  pub total : n .total ≡ i .total
-  pub max : n .max ≡ i .max
-  pub min : n .min ≡ i .min
-
 -- alarm k is a, and all else stands
 pub record OneAlarm (i n : Instrument) (k : ℕ) (a : Alarm) : Type 0 where
-  pub measured : SameMeasured i n
-  pub own : alarmAt (n .alarms) k ≡ a
-  pub others : (j : ℕ) → (j ≡ k → ⊥) → alarmAt (n .alarms) j ≡ alarmAt (i .alarms) j
-  pub code : n .code ≡ i .code
-  pub mode : n .mode ≡ i .mode
+  pub measured : n .measured ≡ i .measured
+  pub alarms : alarms.OneAlarm (i .alarms) (n .alarms) k a
+  pub outputs : n .outputs ≡ i .outputs
 
 -- bit 4 set: only the mode changes, to manual with outputs 1 to 4 as bits 0 to 3
 pub record ToManual (b : ℕ) (i n : Instrument) : Type 0 where
-  pub measured : SameMeasured i n
+  pub measured : n .measured ≡ i .measured
   pub alarms : n .alarms ≡ i .alarms
-  pub code : n .code ≡ i .code
-  pub mode : n .mode ≡ Manual (b % 16)
+  pub code : n .outputs .code ≡ i .outputs .code
+  pub mode : n .outputs .mode ≡ Manual (b % 16)
 
 -- bit 4 clear: automatic mode; an alarm whose bit is 1 stays as it is, any other is reset; the code is that of the present reading
-pub record ToAutomatic (a : Analog) (b : ℕ) (i n : Instrument) : Type 0 where
-  pub measured : SameMeasured i n
-  pub four : length (n .alarms) ≡ 4
-  pub stays : (k : ℕ) → k < 4 → bit b k ≡ true → alarmAt (n .alarms) k ≡ alarmAt (i .alarms) k
-  pub resets : (k : ℕ) → k < 4 → bit b k ≡ false → alarmAt (n .alarms) k ≡ alarms.reset (alarmAt (i .alarms) k)
-  pub code : n .code ≡ codeOf (a .low) (a .high) (i .reading)
-  pub mode : n .mode ≡ Automatic
+pub record ToAutomatic (w : Working) (b : ℕ) (i n : Instrument) : Type 0 where
+  pub measured : n .measured ≡ i .measured
+  pub alarms : alarms.ByBits b (i .alarms) (n .alarms)
+  pub code : n .outputs .code ≡ codeBy w (i .measured .reading)
+  pub mode : n .outputs .mode ≡ Automatic
 
--- ---- the status: driven outputs as bits 0 to 3, and 16 for manual
+-- ---- a sound instrument, by its parts
 
--- output k is driven: by alarm k in automatic mode, by bit k of the manual outputs in manual mode
-abbrev pub driven : Mode → List Alarm → ℕ → Bool
-driven Automatic l k = alarmAt l k .on
-driven (Manual outputs) l k = bit outputs k
-
-pub record IsStatus (mode : Mode) (l : List Alarm) (n : ℕ) : Type 0 where
-  pub outputs : (k : ℕ) → k < 4 → bit n k ≡ driven mode l k
-  pub manual : bit n 4 ≡ not (automatic mode)
-  pub small : n < 32
+pub record Sound (w : Working) (i : Instrument) : Type 0 where
+  pub measured : measured-sound.Sound w (i .measured)
+  pub alarms : alarms.Sound (i .alarms)
+  pub outputs : outputs-sound.Sound (i .outputs)

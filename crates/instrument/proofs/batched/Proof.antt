@@ -1,4 +1,4 @@
--- `instrument::batched` meets its contract: the total is what the callee ensures, all else stands. Assumes nothing.
+-- `instrument::batched` meets its contract: the measured part is what the callee ensures, all else stands. Assumes nothing.
 use borrow.Author.Needs.{needs}
 use Rattle.instrument.proofs.batched.Statement.{statement}
 use Rattle.instrument.proofs.batched.Tie as tie

@@ -14,29 +14,29 @@ reset-max-requires c κs = search needs
 reset-min-requires : tie.Need-reset-min-requires
 reset-min-requires c κs = search needs
 
-sub-reset-alarm : tie.Need-sub-reset-alarm
-sub-reset-alarm c = search needs
+sub-reset-at : tie.Need-sub-reset-at
+sub-reset-at c = search needs
 
-reset-alarm-requires : tie.Need-reset-alarm-requires
-reset-alarm-requires c κs = search needs
+reset-at-requires : tie.Need-reset-at-requires
+reset-at-requires c κs = search needs
 
 returns : tie.Need-returns
 unfolding resetRegister
-returns c = rw (c .before .match .keys1) (c .reset-total .ensures)
+returns c = rw (c .before .match .keys1, c .reset-total .ensures)
 
 returns-2 : tie.Need-returns-2
 unfolding resetRegister
-returns-2 c = rw (c .before .match .keys2) (c .reset-max .ensures)
+returns-2 c = rw (c .before .match .keys2, c .reset-max .ensures)
 
 returns-3 : tie.Need-returns-3
 unfolding resetRegister
-returns-3 c = rw (c .before .match .keys3) (c .reset-min .ensures)
+returns-3 c = rw (c .before .match .keys3, c .reset-min .ensures)
 
 returns-4 : tie.Need-returns-4
 unfolding resetRegister
 returns-4 c =
     let m = c .before .match .rest in
-    rw (ne-eqb _ 1 (m .0 .0 .1), ne-eqb _ 2 (m .0 .1), ne-eqb _ 3 (m .1)) (c .reset-alarm .ensures)
+    rw (ne-eqb _ 1 (m .0 .0 .1), ne-eqb _ 2 (m .0 .1), ne-eqb _ 3 (m .1), c .reset-at .ensures)
 
 pub reset-register-spec : {M : Type 1} → statement M
 reset-register-spec =
@@ -45,8 +45,8 @@ reset-register-spec =
     reset-total-requires
     reset-max-requires
     reset-min-requires
-    sub-reset-alarm
-    reset-alarm-requires
+    sub-reset-at
+    reset-at-requires
     returns
     returns-2
     returns-3

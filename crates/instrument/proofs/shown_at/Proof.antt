@@ -3,7 +3,7 @@ use borrow.Author.Needs.{needs}
 use borrow.Author.Tests.{ne-eqb}
 use native.Mathlib.Omega.{arith}
 use mathlib.Core.Path.{_≡_, ap, _∙_}
-use Prim.Native.Nat.{ℕ, _*_, _-_, _≤_, _<_}
+use Prim.Native.Nat.{ℕ, _*_, _-_, _<_}
 use mir.Syntax.{w64}
 use mir.Val.{Fits}
 use Rattle.exact.proofs.Z.{back32}
@@ -27,15 +27,15 @@ status-requires c κs = search needs
 sub-k : tie.Need-sub-k
 sub-k c = search needs
 
-small : (r : ℕ) → r ≤ 9 → (r ≡ 8 → ⊥) → (r ≡ 9 → ⊥) → r - 4 < 4
+small : (r : ℕ) → r < 10 → (r ≡ 8 → ⊥) → (r ≡ 9 → ⊥) → r - 4 < 4
 small r h e n = omega arith
 
 by12 : {k : ℕ} → k < 4 → Fits w64 (k * 12)
 by12 h = omega arith
 
 -- the registers that are left are the setpoints
-index : (c : tie.At-match-rest) → c .before .before .args .register - 4 < 4
-index c = small _ (c .before .before .pre .1 .1) (c .match .rest .0 .1) (c .match .rest .1)
+index : (c : tie.At-match-rest) → c .before .before .before .before .before .args .register - 4 < 4
+index c = small _ (c .before .before .before .before .before .pre .1 .1) (c .match .rest .0 .1) (c .match .rest .1)
 
 mul-a : tie.Need-mul-a
 mul-a c = by12 (index c)
@@ -61,7 +61,7 @@ returns-4 c = rw (c .before .match .keys4) (c .shown3 .ensures)
 
 returns-5 : tie.Need-returns-5
 unfolding shownAt
-returns-5 c = rw (c .before .match .keys5) (ap Number (back32 _ (c .struct-told .given .1 .1 .1 .1 .1 .0 .1)))
+returns-5 c = rw (c .before .match .keys5) (ap Number (back32 _ (c .struct-told .given .0 .1)))
 
 returns-6 : tie.Need-returns-6
 unfolding shownAt

@@ -9,21 +9,22 @@ use Rattle.instrument.proofs.write_register.Tie as tie
 write-code-requires : tie.Need-write-code-requires
 write-code-requires c κs = search needs
 
-sub-write-setpoint : tie.Need-sub-write-setpoint
-sub-write-setpoint c = search needs
+sub-written-at : tie.Need-sub-written-at
+sub-written-at c = search needs
 
-write-setpoint-requires : tie.Need-write-setpoint-requires
-write-setpoint-requires c κs = search needs
+written-at-requires : tie.Need-written-at-requires
+written-at-requires c κs = search needs
 
 returns : tie.Need-returns
 unfolding writeRegister
-returns c = rw (c .write-code .ensures, toZ-ofZ (c .before .before .fits .z), eq-eqb _ _ (c .before .if1 .taken))
+returns c =
+    rw (c .write-code .ensures, toZ-ofZ (c .before .before .before .fits .z), eq-eqb _ _ (c .before .if1 .taken))
 
 returns-2 : tie.Need-returns-2
 unfolding writeRegister
-returns-2 c = rw (c .write-setpoint .ensures, toZ-ofZ (c .before .before .fits .z), ne-eqb _ _ (c .before .if1 .left))
+returns-2 c =
+    rw (c .written-at .ensures, toZ-ofZ (c .before .before .before .fits .z), ne-eqb _ _ (c .before .if1 .left))
 
 pub write-register-spec : {M : Type 1} → statement M
 write-register-spec =
-    tie.close
-    (tie.spec write-code-requires sub-write-setpoint write-setpoint-requires returns returns-2)
+    tie.close (tie.spec write-code-requires sub-written-at written-at-requires returns returns-2)
