@@ -1,0 +1,2 @@
+pub mod Able
+pub mod Shows

@@ -1,0 +1,77 @@
+-- What settings and instrument show fits into a line, and into a block; and a block is made of the lines that T gives. Assumes nothing.
+use native.Mathlib.Omega.{arith}
+use mathlib.Core.Path.{_≡_, refl, ap}
+use Prim.Native.Nat.{ℕ, zero, suc, _≤_, _<_}
+use lib.IntN.{natAbs}
+use Rattle.exact.proofs.Z.{from-to}
+use Rattle.register.specs.Registers.{at, count}
+use Rattle.reading.specs.declared.Reading.{Reading}
+use Rattle.field.specs.Field.{Showable}
+use Rattle.line.specs.Line.{line, Writable}
+use Rattle.block.specs.Block.{block}
+use Rattle.block.specs.Values.{valueAt, placesOf, valueLine, Printable}
+use Rattle.block.proofs.Blocks.{block-same}
+use Rattle.config.specs.declared.Talking.{Talking}
+use Rattle.config.specs.declared.Working.{Working}
+use Rattle.config.specs.declared.Places.{Places}
+use Rattle.instrument.specs.Shown.{shownAt, placesAt}
+use Rattle.instrument.specs.declared.Instrument.{Instrument}
+use Rattle.instrument.proofs.Soundness.{passes}
+use Rattle.instrument.proofs.Sizes.{shown-size, few}
+use Rattle.effect.specs.Reply.{style, readReply, printReply}
+use Rattle.effect.specs.Values.{values}
+use Rattle.effect.specs.Able.{Able}
+
+-- ---- the values of a block are what the registers show
+
+module _ (p : Places) (w : Working) (i : Instrument) where
+  shown-value : (r : ℕ) → r ≤ at "H" → valueAt (values p w i) r ≡ shownAt w i r
+  unfolding valueAt shownAt
+  shown-value zero h = refl
+  shown-value (suc zero) h = refl
+  shown-value (suc (suc zero)) h = refl
+  shown-value (suc (suc (suc zero))) h = refl
+  shown-value (suc (suc (suc (suc zero)))) h = refl
+  shown-value (suc (suc (suc (suc (suc zero))))) h = refl
+  shown-value (suc (suc (suc (suc (suc (suc zero)))))) h = refl
+  shown-value (suc (suc (suc (suc (suc (suc (suc zero))))))) h = refl
+  shown-value (suc (suc (suc (suc (suc (suc (suc (suc r)))))))) h = absurd (omega arith)
+
+  shown-places : (r : ℕ) → r ≤ at "H" → placesOf (values p w i) r ≡ placesAt p r
+  unfolding placesOf placesAt
+  shown-places zero h = refl
+  shown-places (suc zero) h = refl
+  shown-places (suc (suc zero)) h = refl
+  shown-places (suc (suc (suc zero))) h = refl
+  shown-places (suc (suc (suc (suc zero)))) h = refl
+  shown-places (suc (suc (suc (suc (suc zero))))) h = refl
+  shown-places (suc (suc (suc (suc (suc (suc zero)))))) h = refl
+  shown-places (suc (suc (suc (suc (suc (suc (suc zero))))))) h = refl
+  shown-places (suc (suc (suc (suc (suc (suc (suc (suc r)))))))) h = absurd (omega arith)
+
+-- so a block of them is the block of T's lines
+pub block-is : (t : Talking) (w : Working) (i : Instrument) → block (t .print) (valueLine (style t) (values (t .places) w i)) ≡ printReply t w i
+unfolding printReply valueLine readReply
+block-is t w i = block-same (t .print) (valueLine (style t) (values (t .places) w i)) (readReply t w i) same
+  where
+    same : (r : ℕ) → r ≤ at "H" → valueLine (style t) (values (t .places) w i) r ≡ readReply t w i r
+    same r h = rw (shown-value (t .places) w i r h, shown-places (t .places) w i r h)
+
+-- ---- and they fit
+
+module _ (t : Talking) (w : Working) (i : Instrument) (a : Able t w i) where
+  showable : (r : ℕ) → r < count → Showable (placesAt (t .places) r) (shownAt w i r)
+  showable r h = record { few = few (t .places) r (a .places); short = shown-size w i (passes w i (a .instrument)) r h }
+
+  named : natAbs (t .node) ≤ 99
+  named = from-to (t .node) 0 99 (a .node) .1 .1
+
+  pub writable : (r : ℕ) → r < count → Writable (style t) r (placesAt (t .places) r) (shownAt w i r)
+  writable r h = record { named = named; known = h; fits = showable r h }
+
+  pub printable : Printable (style t) (values (t .places) w i)
+  printable =
+      record {
+        named = named;
+        fits = λ r h. rw (shown-value (t .places) w i r h, shown-places (t .places) w i r h) (showable r (omega arith));
+      }

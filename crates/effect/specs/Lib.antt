@@ -1,0 +1,4 @@
+pub mod Reply
+pub mod Values
+pub mod Effect
+pub mod Able
