@@ -1,2 +1,2 @@
-pub mod Sound
+pub mod Door
 pub mod Meter

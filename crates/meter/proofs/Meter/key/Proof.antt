@@ -1,15 +1,22 @@
 -- `meter::Meter::key` meets its contract: the test at the door decides. Assumes nothing.
 use borrow.Author.Needs.{needs}
-use mathlib.Core.Path.{refl, sym, _∙_}
+use mathlib.Core.Path.{_≡_, refl, sym, ap, _∙_}
+use mathlib.Core.Bool.{true}
 use mir.Facts.{toZ-ofZ}
+use Rattle.meter.specs.Door.{sound}
+use Rattle.meter.proofs.Started.{tested}
 use Rattle.meter.proofs.Meter.key.Statement.{statement}
 use Rattle.meter.proofs.Meter.key.Tie as tie
+
+-- the meter is sound
+passed : (c : tie.Then1) → sound (c .before .before .before .args .self) ≡ true
+passed c = sym (c .before .is-sound .ensures) ∙ c .if1 .taken
 
 is-sound-requires : tie.Need-is-sound-requires
 is-sound-requires c κs = search needs
 
 press-requires : tie.Need-press-requires
-press-requires c κs = sym (c .before .before .is-sound .ensures) ∙ c .before .if1 .taken
+press-requires c κs = let t = c .before .before .before in tested (t .before .before .before .args .self) (passed t) .able
 
 same-length : tie.Need-same-length
 same-length c = search needs
@@ -17,8 +24,8 @@ same-length c = search needs
 returns : tie.Need-returns
 returns c =
     let r = c .before .before .before in
-    let t = r .before .before in
-    rw (sym (t .before .is-sound .ensures) ∙ t .if1 .taken, ← toZ-ofZ (t .before .before .before .fits .number)) (r .press .ensures)
+    let t = r .before .before .before .before in
+    rw (passed t, r .press .ensures .0, toZ-ofZ (t .before .before .before .fits .number)) (refl, r .press .ensures .1 ∙ rw (toZ-ofZ (t .before .before .before .fits .number)))
 
 returns-2 : tie.Need-returns-2
 returns-2 c = rw (sym (c .before .is-sound .ensures) ∙ c .if1 .left) (refl, refl)

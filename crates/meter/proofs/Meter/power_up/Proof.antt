@@ -16,8 +16,8 @@ fresh-requires c κs = search needs
 enum-known-verdict : tie.Need-enum-known-verdict
 enum-known-verdict c = search needs
 
-no-config-requires : tie.Need-no-config-requires
-no-config-requires c κs = search needs
+nothing-requires : tie.Need-nothing-requires
+nothing-requires c κs = search needs
 
 fresh-requires-2 : tie.Need-fresh-requires-2
 fresh-requires-2 c κs = search needs
@@ -26,7 +26,7 @@ returns : tie.Need-returns
 returns c = rw (sym (c .before .before .before .judged .ensures) ∙ c .before .enum-told .given .1, c .fresh .ensures)
 
 returns-2 : tie.Need-returns-2
-returns-2 c = rw (sym (c .before .before .before .before .before .judged .ensures) ∙ c .before .before .before .verdict .given .1, c .fresh2 .ensures, c .before .no-config .ensures)
+returns-2 c = rw (sym (c .before .before .before .before .before .judged .ensures) ∙ c .before .before .before .verdict .given .1, c .fresh2 .ensures, c .before .nothing .ensures)
 
 pub power-up-spec : {M : Type 1} → statement M
 power-up-spec =
@@ -36,7 +36,7 @@ power-up-spec =
     enum-told
     fresh-requires
     enum-known-verdict
-    no-config-requires
+    nothing-requires
     fresh-requires-2
     returns
     returns-2)

@@ -1,0 +1,43 @@
+-- Which meter values are meters that were started, and which test an event has to pass.
+use mathlib.Core.Path.{_≡_}
+use mathlib.Core.Bool.{Bool, true, false, _&&_}
+use lib.IntN.{pos, natAbs}
+use lib.Signed.{ltZ}
+use Rattle.exact.specs.Sign.{isNeg}
+use Rattle.reading.specs.Reading.{Scalable}
+use Rattle.receiver.specs.declared.Kind.{Kind}
+use Rattle.receiver.specs.declared.Kind.the-variants.{End, Drop, Part}
+use Rattle.instrument.specs.Instrument.{canScale}
+use Rattle.effect.specs.Able.{able, Able}
+use Rattle.meter.specs.declared.Meter.{Meter}
+
+-- a started meter has a rounding step, which every accepted configuration has and the value that a refusal leaves has not
+abbrev pub started : Meter → Bool
+started m = ltZ (pos 0) (m .config .scale .step)
+
+-- a sound one has all that scaling, counting and showing lean on
+unfoldable pub sound : Meter → Bool
+sound m = canScale (m .config .scale) && able (m .config .talking) (m .config .working) (m .instrument)
+
+-- what an event does: it works on the instrument, or it only goes into the receiver
+pub data Reach : Type 0 where
+  works : Reach
+  hears : Reach
+
+-- a string's end works, and so do samples and keys; a byte that is stored or drops a string does not
+abbrev pub reachOf : Kind → Reach
+reachOf End = works
+reachOf Drop = hears
+reachOf Part = hears
+
+-- what works asks that the meter is sound, what only hears that it was started. A value that fails is a meter not started
+abbrev pub door : Reach → Meter → Bool
+door works m = sound m
+door hears m = started m
+
+-- ---- a sound meter by its parts: what the inner functions lean on
+
+pub record Sound (m : Meter) : Type 0 where
+  pub counted : isNeg (m .config .scale .count) ≡ false
+  pub scale : Scalable (m .config .scale .inputs) (m .config .scale .displays) (natAbs (m .config .scale .count)) (m .config .scale .step)
+  pub able : Able (m .config .talking) (m .config .working) (m .instrument)
