@@ -4,7 +4,7 @@ use mathlib.Core.Bool.{true}
 use mathlib.Core.List.{List}
 use Prim.Native.Nat.{ℕ}
 use Rattle.config.specs.declared.Verdict.{Verdict}
-use Rattle.meter.specs.Sound.{sound}
+use Rattle.meter.specs.Door.{sound}
 use Rattle.meter.specs.Meter.{Step, byVerdict}
 use Rattle.meter.specs.declared.Meter.{Meter}
 use Rattle.meter.specs.declared.Outcome.{Outcome}
@@ -12,9 +12,9 @@ use Rattle.promises.specs.Calls.{Call, Allows}
 use Rattle.promises.specs.Started as started
 use Rattle.promises.specs.Started.{Reached}
 use Rattle.promises.specs.Demand.{Demand1}
-use Rattle.promises.proofs.Answers.{numbered, started-never-12}
+use Rattle.promises.proofs.Answers.{numbered, sound-never-12}
 use Rattle.promises.proofs.StaysSound.{stays-sound}
-use Rattle.promises.proofs.Rows.{power-up-rows, event-rows}
+use Rattle.promises.proofs.Rows.{power-up-rows, event-rows, shut}
 use Rattle.promises.proofs.Leaves.{buffer-fine, leaves}
 
 -- a step by its two halves
@@ -40,6 +40,7 @@ demand-1 =
       event-rows = event-rows;
       buffer = buffer-fine;
       leaves = leaves;
+      shut = shut;
       stays-sound = stays-sound;
-      never-12 = λ m r. started-never-12 m (reached-sound r);
+      never-12 = λ m r. sound-never-12 m (reached-sound r);
     }

@@ -1,12 +1,11 @@
 -- The table of answers, row by row. Assumes nothing.
 use mathlib.Core.Path.{_≡_, refl, ap, _∙_}
 use mathlib.Core.Bool.{Bool, true, false, cond}
-use mathlib.Core.List.{List}
+use mathlib.Core.List.{List, []}
 use mathlib.Core.Logic.{_≢_}
-use Prim.Native.Nat.{ℕ, _+_, _-_, _≤_, _<_}
+use Prim.Native.Nat.{ℕ, _≤_}
 use native.Mathlib.Omega.{arith}
-use borrow.Author.Tests.{eq-eqb, ne-eqb, le-leb, lt-leb, leb-true, le-ltb, ltb-true}
-use lib.Dec.{leb}
+use borrow.Author.Tests.{eq-eqb, ne-eqb, le-ltb, ltb-true}
 use lib.IntN.{ℤ, pos}
 use lib.ListN.{length, take}
 use Rattle.exact.specs.Sign.{eqZ}
@@ -15,25 +14,25 @@ use Rattle.answer.specs.Answer as answers
 use Rattle.answer.specs.declared.Answer.{Answer}
 use Rattle.answer.specs.declared.Answer.the-variants.{Done, Stored, Replied, OtherNode, BadForm, Dropped, TooLong, OutOfRange, InAutomatic, NoRoom, UnknownKey, Refused, NotStarted}
 use Rattle.config.specs.declared.Config.{Config}
-use Rattle.receiver.specs.Receiver.{bytes, too-long, limit, over, heard, store}
+use Rattle.receiver.specs.Receiver.{Heard, bytes, too-long, limit, over, kind, heard, store}
 use Rattle.receiver.specs.declared.Receiver.{Receiver}
-use Rattle.receiver.specs.declared.Kind.{Kind}
-use Rattle.command.specs.Parse.{parse}
+use Rattle.receiver.specs.declared.Kind.the-variants.{End, Drop, Part}
 use Rattle.command.specs.declared.Asked.{Asked}
 use Rattle.command.specs.declared.Asked.the-variants.{Read, Print, Reset, Write, Status}
 use Rattle.form.specs.Grammar.{Says}
 use Rattle.form.proofs.Meaning.{says-parse, for-parse}
 use Rattle.form.proofs.Understood.{understood}
-use Rattle.line.specs.Buffer as buffers
-use Rattle.instrument.specs.Instrument as instruments
-use Rattle.instrument.specs.Meaning.{shut}
+use Rattle.line.specs.Buffer.{laid}
 use Rattle.instrument.proofs.Permits.{judged}
-use Rattle.meter.specs.Sound.{canScale, soundConfig, sound}
-use Rattle.meter.specs.Meter.{Step, step, notStarted, emptied, replied, carried, addressed, byKind, received}
+use Rattle.effect.specs.Effect.{Effect, replies, settle, carried}
+use Rattle.meter.specs.Door.{sound, works, reachOf}
+use Rattle.meter.specs.Meter.{Step, step, withInstrument, emptied, settledIn, received}
 use Rattle.meter.specs.declared.Meter.{Meter}
 use Rattle.promises.specs.Calls.{Call, power-up, sample, key, byte, result}
 use Rattle.promises.specs.Rows.{Gives, Ends, nodeOf, Room, Cramped, lineOf, blockOf, Row0, Row1, Row2, Row3, Row4, Row5, Row6, Row7, Row8, Row9, Row10, Row12, EventRows, PowerUpRows}
-use Rattle.promises.proofs.Door.{shuts, keyed-in, received-in, at-end}
+use Rattle.promises.specs.Started.{Shut}
+use Rattle.promises.proofs.Door.{shuts, stands-shut, keyed-in, received-as, endedAs, at-end}
+use Rattle.promises.proofs.Settling.{with-room, without-room}
 
 -- a call whose step is known gives the numbers of its answer, its meter and its buffer
 gives : (k : Call) (a : Answer) (m : Meter) (buffer : List ℕ) → result k ≡ step a m buffer → Gives k (answers.number a) (answers.value a) m buffer
@@ -44,18 +43,6 @@ gives k a m buffer e =
       meter = ap (λ (s : Step). s .outcome .meter) e;
       bytes = ap (λ (s : Step). s .buffer) e;
     }
-
--- ---- room
-
-has-room : (size place n : ℕ) → place + n ≤ size → buffers.room size place n ≡ true
-has-room size place n h = rw (le-leb place size (omega arith), le-leb n (size - place) (omega arith))
-
-no-room-by : (size place n : ℕ) (t : Bool) → leb place size ≡ t → size < place + n → buffers.room size place n ≡ false
-no-room-by size place n true e h = rw (e, lt-leb n (size - place) (omega (arith, leb-true place size e)))
-no-room-by size place n false e h = rw e
-
-no-room : (size place n : ℕ) → size < place + n → buffers.room size place n ≡ false
-no-room size place n h = no-room-by size place n (leb place size) refl h
 
 -- ---- a string that is too long stays too long
 
@@ -69,31 +56,33 @@ unfolding heard
 passed-over r b h = passed-by r b (over (r .length)) refl h
 
 module _ (m : Meter) (buffer : List ℕ) (place : ℕ) where
+  -- ---- what an effect upon this meter comes to
+
+  abbrev settles : Meter → Effect → Step
+  settles n e = settledIn n (settle (m .instrument) e buffer place)
+
+  written : (n : Meter) (text : List ℕ) → Room text buffer place
+      → settles n (replies text (m .instrument)) ≡ step (Replied (length text)) (withInstrument n (m .instrument)) (laid buffer place text)
+  written n text room = ap (settledIn n) (with-room (m .instrument) (m .instrument) text buffer place room)
+
+  crowded : (n : Meter) (text : List ℕ) → Cramped text buffer place → settles n (replies text (m .instrument)) ≡ step NoRoom (withInstrument n (m .instrument)) buffer
+  crowded n text cramped = ap (settledIn n) (without-room (m .instrument) (m .instrument) text buffer place cramped)
+
   -- ---- the end of a string that was heard
 
-  at-string : (b : ℕ) (s : List ℕ) → Ends m b s → received m b buffer place ≡ addressed m (parse s) buffer place
-  at-string b s e =
-      received-in m buffer place b (e .started)
-      ∙ ap (λ (k : Kind). byKind m b buffer place k) (e .ends)
-      ∙ at-end m buffer place (bytes s) (e .string)
+  ends : (b : ℕ) (h : Heard) → sound m ≡ true → kind b ≡ End → heard (m .receiver) ≡ h → received m b buffer place ≡ settles (emptied m) (endedAs m h)
+  ends b h ok end e = received-as m buffer place b End end ok ∙ ap (settles (emptied m)) (at-end m h e)
 
-  obeys : (b : ℕ) (s : List ℕ) (a : Asked) → Ends m b s → Says s (nodeOf m) a → received m b buffer place ≡ carried m a buffer place
-  obeys b s a e x = at-string b s e ∙ rw (says-parse x, eq-eqb (nodeOf m) (nodeOf m) refl)
+  tells : (b : ℕ) (s : List ℕ) → Ends m b s → received m b buffer place ≡ settles (emptied m) (endedAs m (bytes s))
+  tells b s e = ends b (bytes s) (e .started) (e .ends) (e .string)
 
-  -- ---- a reply, with room and without
-
-  with-room : (n : Meter) (reply : List ℕ) → Room reply buffer place → replied n reply buffer place ≡ step (Replied (length reply)) n (buffers.laid buffer place reply)
-  unfolding buffers.answer buffers.after
-  with-room n reply h = rw (has-room (length buffer) place (length reply) h)
-
-  without-room : (n : Meter) (reply : List ℕ) → Cramped reply buffer place → replied n reply buffer place ≡ step NoRoom n buffer
-  unfolding buffers.answer buffers.after
-  without-room n reply h = rw (no-room (length buffer) place (length reply) h)
+  obeys : (b : ℕ) (s : List ℕ) (a : Asked) → Ends m b s → Says s (nodeOf m) a
+      → received m b buffer place ≡ settles (emptied m) (carried (m .config .talking) (m .config .working) (m .instrument) a)
+  obeys b s a e x = tells b s e ∙ rw (says-parse x, eq-eqb (nodeOf m) (nodeOf m) refl)
 
   -- ---- the rows
 
   row-0 : Row0 m buffer place
-  unfolding instruments.resetRegister
   row-0 =
       record {
         sampled = λ x ok. gives (sample m x) Done _ _ (rw ok);
@@ -105,61 +94,58 @@ module _ (m : Meter) (buffer : List ℕ) (place : ℕ) where
         reset = λ b r s e x. gives (byte m b buffer place) Done _ _ (obeys b s (Reset r) e x);
         write =
             λ b r z s e x inside allowed.
-            gives (byte m b buffer place) Done _ _ (obeys b s (Write r z) e x ∙ rw (judged (m .instrument .mode) r z .allows inside allowed));
+            gives (byte m b buffer place) Done _ _ (obeys b s (Write r z) e x ∙ rw (judged (m .instrument .outputs .mode) r z .allows inside allowed));
         status = λ b v s e x. gives (byte m b buffer place) Done _ _ (obeys b s (Status v) e x);
       }
 
   row-1 : Row1 m buffer place
   row-1 =
       record {
-        stored = λ b ok part. gives (byte m b buffer place) Stored _ _ (received-in m buffer place b ok ∙ rw part);
+        stored = λ b ok part. gives (byte m b buffer place) Stored _ _ (received-as m buffer place b Part part ok);
         passed-over = λ b h. passed-over (m .receiver) b h;
       }
 
   row-2 : Row2 m buffer place
   row-2 =
       record {
-        read = λ b r s e x room. gives (byte m b buffer place) (Replied (length (lineOf m r))) _ _ (obeys b s (Read r) e x ∙ with-room (emptied m) (lineOf m r) room);
-        print = λ b s e x room. gives (byte m b buffer place) (Replied (length (blockOf m))) _ _ (obeys b s Print e x ∙ with-room (emptied m) (blockOf m) room);
-        print-key = λ ok room. gives (key m (pos 6) buffer place) (Replied (length (blockOf m))) _ _ (keyed-in m buffer place (pos 6) ok ∙ with-room m (blockOf m) room);
+        read = λ b r s e x room. gives (byte m b buffer place) (Replied (length (lineOf m r))) _ _ (obeys b s (Read r) e x ∙ written (emptied m) (lineOf m r) room);
+        print = λ b s e x room. gives (byte m b buffer place) (Replied (length (blockOf m))) _ _ (obeys b s Print e x ∙ written (emptied m) (blockOf m) room);
+        print-key = λ ok room. gives (key m (pos 6) buffer place) (Replied (length (blockOf m))) _ _ (keyed-in m buffer place (pos 6) ok ∙ written m (blockOf m) room);
       }
 
   row-3 : Row3 m buffer place
-  row-3 b n s e f other =
-      gives (byte m b buffer place) OtherNode _ _ (at-string b s e ∙ rw (for-parse f, ne-eqb n (nodeOf m) other))
+  row-3 b n s e f other = gives (byte m b buffer place) OtherNode _ _ (tells b s e ∙ rw (for-parse f, ne-eqb n (nodeOf m) other))
 
   row-4 : Row4 m buffer place
   row-4 =
       record {
-        no-digit = λ b s e d. gives (byte m b buffer place) BadForm _ _ (at-string b s e ∙ rw (understood .no-node s .1 d));
+        no-digit = λ b s e d. gives (byte m b buffer place) BadForm _ _ (tells b s e ∙ rw (understood .no-node s .1 d));
         bad-form =
             λ b s e f silent.
             gives (byte m b buffer place) BadForm _ _
-            (at-string b s e ∙ rw (understood .bad-form s (nodeOf m) .1 (f, silent), eq-eqb (nodeOf m) (nodeOf m) refl));
+            (tells b s e ∙ rw (understood .bad-form s (nodeOf m) .1 (f, silent), eq-eqb (nodeOf m) (nodeOf m) refl));
       }
 
   row-5 : Row5 m buffer place
-  row-5 b ok drop = gives (byte m b buffer place) Dropped _ _ (received-in m buffer place b ok ∙ rw drop)
+  row-5 b ok drop = gives (byte m b buffer place) Dropped _ _ (received-as m buffer place b Drop drop ok)
 
   row-6 : Row6 m buffer place
-  row-6 b ok end long =
-      gives (byte m b buffer place) TooLong _ _
-      (received-in m buffer place b ok ∙ ap (λ (k : Kind). byKind m b buffer place k) end ∙ at-end m buffer place too-long long)
+  row-6 b ok end long = gives (byte m b buffer place) TooLong _ _ (ends b too-long ok end long)
 
   row-7 : Row7 m buffer place
   row-7 b r z s e x outside =
-      gives (byte m b buffer place) OutOfRange _ _ (obeys b s (Write r z) e x ∙ rw (judged (m .instrument .mode) r z .out outside))
+      gives (byte m b buffer place) OutOfRange _ _ (obeys b s (Write r z) e x ∙ rw (judged (m .instrument .outputs .mode) r z .out outside))
 
   row-8 : Row8 m buffer place
   row-8 b r z s e x inside closed =
-      gives (byte m b buffer place) InAutomatic _ _ (obeys b s (Write r z) e x ∙ rw (judged (m .instrument .mode) r z .shuts inside closed))
+      gives (byte m b buffer place) InAutomatic _ _ (obeys b s (Write r z) e x ∙ rw (judged (m .instrument .outputs .mode) r z .shuts inside closed))
 
   row-9 : Row9 m buffer place
   row-9 =
       record {
-        read = λ b r s e x cramped. gives (byte m b buffer place) NoRoom _ _ (obeys b s (Read r) e x ∙ without-room (emptied m) (lineOf m r) cramped);
-        print = λ b s e x cramped. gives (byte m b buffer place) NoRoom _ _ (obeys b s Print e x ∙ without-room (emptied m) (blockOf m) cramped);
-        print-key = λ ok cramped. gives (key m (pos 6) buffer place) NoRoom _ _ (keyed-in m buffer place (pos 6) ok ∙ without-room m (blockOf m) cramped);
+        read = λ b r s e x cramped. gives (byte m b buffer place) NoRoom _ _ (obeys b s (Read r) e x ∙ crowded (emptied m) (lineOf m r) cramped);
+        print = λ b s e x cramped. gives (byte m b buffer place) NoRoom _ _ (obeys b s Print e x ∙ crowded (emptied m) (blockOf m) cramped);
+        print-key = λ ok cramped. gives (key m (pos 6) buffer place) NoRoom _ _ (keyed-in m buffer place (pos 6) ok ∙ crowded m (blockOf m) cramped);
       }
 
   none-of : (k : ℤ) → ((n : ℕ) → 1 ≤ n → n ≤ 6 → k ≢ pos n) → (n : ℕ) → 1 ≤ n → n ≤ 6 → eqZ k (pos n) ≡ false
@@ -202,14 +188,20 @@ module _ (m : Meter) (buffer : List ℕ) (place : ℕ) where
         row-12 = row-12;
       }
 
-not-started : sound notStarted ≡ false
-unfolding sound soundConfig canScale
-not-started = refl
-
 pub power-up-rows : (c : Config) → PowerUpRows c
 power-up-rows c =
     record {
       row-0 = λ e. gives (power-up c) Done _ _ (rw e);
       row-11 = λ rule e. gives (power-up c) (Refused rule) _ _ (rw e);
-      not-started = not-started;
+      not-started = refl;
+    }
+
+-- ---- a value that was not started is shut out
+
+pub shut : (m : Meter) → Shut m
+shut m =
+    record {
+      sampled = λ x never. event-rows m [] 0 .row-12 .sampled x (stands-shut m works never);
+      keyed = λ k buffer place never. event-rows m buffer place .row-12 .pressed k (stands-shut m works never);
+      received = λ b buffer place never. event-rows m buffer place .row-12 .received b (stands-shut m (reachOf (kind b)) never);
     }

@@ -9,7 +9,7 @@ use Rattle.meter.specs.declared.Meter.{Meter}
 use Rattle.promises.specs.Calls.{Call, lent, placeOf, result, Allows, answered, possible}
 use Rattle.promises.specs.Rows.{EventRows, PowerUpRows}
 use Rattle.promises.specs.Leaves.{Buffer, Leaves}
-use Rattle.promises.specs.Started.{StaysSound, Reached, Never12}
+use Rattle.promises.specs.Started.{Shut, StaysSound, Reached, Never12}
 
 pub record Demand1 : Type 0 where
   -- any two outcomes that a contract allows are equal
@@ -22,6 +22,8 @@ pub record Demand1 : Type 0 where
   -- what is left as it was
   pub buffer : (k : Call) → Buffer (lent k) (placeOf k) (result k)
   pub leaves : (m : Meter) → Leaves m
+  -- every event to a value that was not started is answered 12
+  pub shut : (m : Meter) → Shut m
   -- no event of any history after an accepted power-up is answered 12
   pub stays-sound : StaysSound
   pub never-12 : (m : Meter) → Reached m → Never12 m

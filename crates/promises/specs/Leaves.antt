@@ -9,7 +9,7 @@ use lib.ListN.{length, take, drop}
 use Rattle.answer.specs.Answer.{number, value}
 use Rattle.receiver.specs.Receiver.{bytes, heard, kind}
 use Rattle.receiver.specs.declared.Kind.the-variants.{Part}
-use Rattle.meter.specs.Sound.{sound}
+use Rattle.meter.specs.Door.{reachOf, door}
 use Rattle.meter.specs.Meter.{Step}
 use Rattle.meter.specs.declared.Meter.{Meter}
 use Rattle.promises.specs.Calls.{sample, key, byte, answered, left}
@@ -38,7 +38,7 @@ pub record Leaves (m : Meter) : Type 0 where
   -- so does a reply
   pub replied : (b : ℕ) (buffer : List ℕ) (place : ℕ) → answered (byte m b buffer place) ≡ 2 → Emptied m (left (byte m b buffer place))
   -- any string's end empties the receiver, and so do CR and LF
-  pub ended : (b : ℕ) (buffer : List ℕ) (place : ℕ) → sound m ≡ true → kind b ≢ Part → heard (left (byte m b buffer place) .receiver) ≡ bytes []
+  pub ended : (b : ℕ) (buffer : List ℕ) (place : ℕ) → door (reachOf (kind b)) m ≡ true → kind b ≢ Part → heard (left (byte m b buffer place) .receiver) ≡ bytes []
   -- samples and keys leave a half received string as it is
   pub sample-half : (x : ℤ) → left (sample m x) .receiver ≡ m .receiver
   pub key-half : (k : ℤ) (buffer : List ℕ) (place : ℕ) → left (key m k buffer place) .receiver ≡ m .receiver

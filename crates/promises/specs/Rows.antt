@@ -6,6 +6,7 @@ use mathlib.Core.Logic.{_≢_}
 use Prim.Native.Nat.{ℕ, _+_, _≤_, _<_}
 use lib.IntN.{ℤ, pos, natAbs}
 use lib.ListN.{length}
+use Rattle.register.specs.Registers.{at}
 use Rattle.answer.specs.Answer as answers
 use Rattle.config.specs.Config as configs
 use Rattle.config.specs.declared.Config.{Config}
@@ -14,13 +15,15 @@ use Rattle.receiver.specs.Receiver as receivers
 use Rattle.receiver.specs.Receiver.{bytes, too-long}
 use Rattle.receiver.specs.declared.Kind.the-variants.{End, Drop, Part}
 use Rattle.command.specs.declared.Asked.the-variants.{Read, Print, Reset, Write, Status}
-use Rattle.form.specs.Grammar.{For, Says, No-digit}
+use Rattle.form.specs.Grammar.{For, Says, NoDigit}
 use Rattle.form.specs.Understood.{Silent}
 use Rattle.line.specs.Buffer.{laid}
 use Rattle.instrument.specs.Instrument as instruments
 use Rattle.instrument.specs.Meaning.{numberIn, shut}
-use Rattle.meter.specs.Sound.{sound}
-use Rattle.meter.specs.Meter.{fresh, notStarted, withInstrument, withReceiver, emptied, changed, readReply, printReply}
+use Rattle.instrument.specs.declared.Instrument.{Instrument}
+use Rattle.effect.specs.Reply.{readReply, printReply}
+use Rattle.meter.specs.Door.{started, sound, reachOf, door}
+use Rattle.meter.specs.Meter.{fresh, notStarted, withInstrument, withReceiver, emptied, measured}
 use Rattle.meter.specs.declared.Meter.{Meter}
 use Rattle.promises.specs.Calls.{Call, power-up, sample, key, byte, result}
 
@@ -42,7 +45,7 @@ pub record Ends (m : Meter) (b : ℕ) (s : List ℕ) : Type 0 where
 
 -- this meter's node, as strings name it
 abbrev pub nodeOf : Meter → ℕ
-nodeOf m = natAbs (m .config .node)
+nodeOf m = natAbs (m .config .talking .node)
 
 -- a reply has room in the buffer from the place on
 abbrev pub Room : List ℕ → List ℕ → ℕ → Type 0
@@ -53,34 +56,42 @@ Cramped reply buffer place = length buffer < place + length reply
 
 -- what T of a register shows, and what P and key 6 show
 abbrev pub lineOf : Meter → ℕ → List ℕ
-lineOf m r = readReply (m .config) (m .instrument) r
+lineOf m r = readReply (m .config .talking) (m .config .working) (m .instrument) r
 
 abbrev pub blockOf : Meter → List ℕ
-blockOf m = printReply (m .config) (m .instrument)
+blockOf m = printReply (m .config .talking) (m .config .working) (m .instrument)
+
+-- the meter that a string leaves which changes the instrument: its receiver is emptied
+abbrev pub changed : Meter → Instrument → Meter
+changed m i = withInstrument (emptied m) i
+
+-- R of a register
+abbrev pub resetBy : Meter → ℕ → Instrument
+resetBy m r = instruments.resetRegister (m .config .working) (m .instrument) r
 
 -- ---- the rows
 
 module _ (m : Meter) (buffer : List ℕ) (place : ℕ) where
   -- 0: a sample, a key or a V or R string is carried out
   pub record Row0 : Type 0 where
-    pub sampled : (x : ℤ) → sound m ≡ true → Gives (sample m x) 0 0 (withInstrument m (instruments.sampled (m .config) (m .instrument) x)) []
-    pub batch : sound m ≡ true → m .config .totalizer .batch ≡ true
-        → Gives (key m (pos 1) buffer place) 0 0 (withInstrument m (instruments.batched (m .config .totalizer) (m .instrument))) buffer
+    pub sampled : (x : ℤ) → sound m ≡ true → Gives (sample m x) 0 0 (withInstrument m (measured m x)) []
+    pub batch : sound m ≡ true → m .config .working .totalizer .batch ≡ true
+        → Gives (key m (pos 1) buffer place) 0 0 (withInstrument m (instruments.batched (m .config .working) (m .instrument))) buffer
     -- keys 2, 3 and 4 act as RB, RC and RD do, and key 5 resets all alarms
-    pub total-key : sound m ≡ true → Gives (key m (pos 2) buffer place) 0 0 (withInstrument m (instruments.resetRegister (m .instrument) 1)) buffer
-    pub max-key : sound m ≡ true → Gives (key m (pos 3) buffer place) 0 0 (withInstrument m (instruments.resetRegister (m .instrument) 2)) buffer
-    pub min-key : sound m ≡ true → Gives (key m (pos 4) buffer place) 0 0 (withInstrument m (instruments.resetRegister (m .instrument) 3)) buffer
-    pub alarms-key : sound m ≡ true → Gives (key m (pos 5) buffer place) 0 0 (withInstrument m (instruments.resetAlarms (m .instrument))) buffer
+    pub total-key : sound m ≡ true → Gives (key m (pos 2) buffer place) 0 0 (withInstrument m (resetBy m (at "B"))) buffer
+    pub max-key : sound m ≡ true → Gives (key m (pos 3) buffer place) 0 0 (withInstrument m (resetBy m (at "C"))) buffer
+    pub min-key : sound m ≡ true → Gives (key m (pos 4) buffer place) 0 0 (withInstrument m (resetBy m (at "D"))) buffer
+    pub alarms-key : sound m ≡ true → Gives (key m (pos 5) buffer place) 0 0 (withInstrument m (instruments.resetAlarms (m .config .working) (m .instrument))) buffer
     pub reset : (b r : ℕ) (s : List ℕ) → Ends m b s → Says s (nodeOf m) (Reset r)
-        → Gives (byte m b buffer place) 0 0 (changed m (instruments.resetRegister (m .instrument) r)) buffer
-    pub write : (b r : ℕ) (z : ℤ) (s : List ℕ) → Ends m b s → Says s (nodeOf m) (Write r z) → numberIn r z ≡ true → shut (m .instrument .mode) r ≡ false
-        → Gives (byte m b buffer place) 0 0 (changed m (instruments.writeRegister (m .instrument) r z)) buffer
+        → Gives (byte m b buffer place) 0 0 (changed m (resetBy m r)) buffer
+    pub write : (b r : ℕ) (z : ℤ) (s : List ℕ) → Ends m b s → Says s (nodeOf m) (Write r z) → numberIn r z ≡ true → shut (m .instrument .outputs .mode) r ≡ false
+        → Gives (byte m b buffer place) 0 0 (changed m (instruments.writeRegister (m .config .working) (m .instrument) r z)) buffer
     pub status : (b v : ℕ) (s : List ℕ) → Ends m b s → Says s (nodeOf m) (Status v)
-        → Gives (byte m b buffer place) 0 0 (changed m (instruments.writeStatus (m .config .analog) (m .instrument) v)) buffer
+        → Gives (byte m b buffer place) 0 0 (changed m (instruments.writeStatus (m .config .working) (m .instrument) v)) buffer
 
   -- 1: a byte is stored, or passed over where the string is already too long; only the receiver changes
   pub record Row1 : Type 0 where
-    pub stored : (b : ℕ) → sound m ≡ true → receivers.kind b ≡ Part
+    pub stored : (b : ℕ) → started m ≡ true → receivers.kind b ≡ Part
         → Gives (byte m b buffer place) 1 0 (withReceiver m (receivers.store (m .receiver) b)) buffer
     pub passed-over : (b : ℕ) → receivers.heard (m .receiver) ≡ too-long → receivers.heard (receivers.store (m .receiver) b) ≡ too-long
 
@@ -99,12 +110,12 @@ module _ (m : Meter) (buffer : List ℕ) (place : ℕ) where
 
   -- 4: bad form. N has no digit, or the string is for this node and asks nothing of it
   pub record Row4 : Type 0 where
-    pub no-digit : (b : ℕ) (s : List ℕ) → Ends m b s → No-digit s → Gives (byte m b buffer place) 4 0 (emptied m) buffer
+    pub no-digit : (b : ℕ) (s : List ℕ) → Ends m b s → NoDigit s → Gives (byte m b buffer place) 4 0 (emptied m) buffer
     pub bad-form : (b : ℕ) (s : List ℕ) → Ends m b s → For s (nodeOf m) → Silent s (nodeOf m) → Gives (byte m b buffer place) 4 0 (emptied m) buffer
 
   -- 5: CR or LF, whether or not anything was waiting
   abbrev pub Row5 : Type 0
-  Row5 = (b : ℕ) → sound m ≡ true → receivers.kind b ≡ Drop → Gives (byte m b buffer place) 5 0 (emptied m) buffer
+  Row5 = (b : ℕ) → started m ≡ true → receivers.kind b ≡ Drop → Gives (byte m b buffer place) 5 0 (emptied m) buffer
 
   -- 6: the string has more than 32 bytes before its end
   abbrev pub Row6 : Type 0
@@ -121,7 +132,7 @@ module _ (m : Meter) (buffer : List ℕ) (place : ℕ) where
   -- 8: the analog register is written in automatic mode, with a number in its range
   abbrev pub Row8 : Type 0
   Row8 =
-      (b r : ℕ) (z : ℤ) (s : List ℕ) → Ends m b s → Says s (nodeOf m) (Write r z) → numberIn r z ≡ true → shut (m .instrument .mode) r ≡ true
+      (b r : ℕ) (z : ℤ) (s : List ℕ) → Ends m b s → Says s (nodeOf m) (Write r z) → numberIn r z ≡ true → shut (m .instrument .outputs .mode) r ≡ true
       → Gives (byte m b buffer place) 8 0 (emptied m) buffer
 
   -- 9: the reply has no room. The receiver is emptied where a string asked for it; the buffer is as it was
@@ -135,13 +146,13 @@ module _ (m : Meter) (buffer : List ℕ) (place : ℕ) where
   -- 10: a key that is none of 1 to 6, or key 1 in a meter not set for batch; nothing changes
   pub record Row10 : Type 0 where
     pub unknown : (k : ℤ) → sound m ≡ true → ((n : ℕ) → 1 ≤ n → n ≤ 6 → k ≢ pos n) → Gives (key m k buffer place) 10 0 m buffer
-    pub no-batch : sound m ≡ true → m .config .totalizer .batch ≡ false → Gives (key m (pos 1) buffer place) 10 0 m buffer
+    pub no-batch : sound m ≡ true → m .config .working .totalizer .batch ≡ false → Gives (key m (pos 1) buffer place) 10 0 m buffer
 
-  -- 12: any event to a meter not started; nothing changes
+  -- 12: any event to a meter not started; nothing changes. A byte that only goes into the receiver asks no more than that it was started
   pub record Row12 : Type 0 where
     pub sampled : (x : ℤ) → sound m ≡ false → Gives (sample m x) 12 0 m []
     pub pressed : (k : ℤ) → sound m ≡ false → Gives (key m k buffer place) 12 0 m buffer
-    pub received : (b : ℕ) → sound m ≡ false → Gives (byte m b buffer place) 12 0 m buffer
+    pub received : (b : ℕ) → door (reachOf (receivers.kind b)) m ≡ false → Gives (byte m b buffer place) 12 0 m buffer
 
   pub record EventRows : Type 0 where
     pub row-0 : Row0
@@ -161,4 +172,4 @@ module _ (m : Meter) (buffer : List ℕ) (place : ℕ) where
 pub record PowerUpRows (c : Config) : Type 0 where
   pub row-0 : configs.judged c ≡ Accepted → Gives (power-up c) 0 0 (fresh c) []
   pub row-11 : (rule : ℕ) → configs.judged c ≡ Broken rule → Gives (power-up c) 11 rule notStarted []
-  pub not-started : sound notStarted ≡ false
+  pub not-started : started notStarted ≡ false
