@@ -14,7 +14,7 @@ use Rattle.config.specs.declared.Config.{Config}
 use Rattle.meter.specs.Meter.{Step, sampled, keyed, received}
 use Rattle.meter.specs.declared.Outcome.{Outcome}
 use Rattle.looking.specs.History.{sample, key, byte, History, outcomeOf, lastOutcome}
-use Rattle.looking.proofs.Sound.{demand-3}
+use Rattle.looking.proofs.Demand.{demand-3}
 use Rattle.carry.specs.CarriedOut.{isByte, carriedOne, carriedOut, encoded, behind, historyOf, CarriesOut}
 
 module _ (c : Config) where

@@ -5,7 +5,7 @@ use Prim.Native.Nat.{ℕ, _%_, _≤_, _<_}
 use native.Mathlib.Nat.{div-add-mod, mod-lt}
 use native.Mathlib.Omega.{arith}
 use Rattle.register.specs.Bytes.{byte as char}
-use Rattle.register.specs.Registers.{entry}
+use Rattle.register.specs.Registers.{entry, count}
 use Rattle.register.proofs.Ranges.{in-range}
 use Rattle.register.proofs.Table.{ruled}
 use Rattle.command.specs.declared.Asked.{Asked}
@@ -26,7 +26,7 @@ module _ (n : ℕ) (small : n ≤ 99) where
   asks : (a : Asked) (rest : List ℕ) → Body a rest → Says (toNode n ++ rest) n a
   asks a rest b = record { to = record { part = toNode n; rest = rest; whole = refl; address = address rest }; body = b }
 
-  pub t-reads : (r : ℕ) → r < 10 → Reads (tString n r) n (Read r)
+  pub t-reads : (r : ℕ) → r < count → Reads (tString n r) n (Read r)
   t-reads r h =
       let t = ruled r h in
       read (asks (Read r) (char "T" ∷ entry r .letter ∷ [])

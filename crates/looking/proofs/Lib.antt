@@ -1,5 +1,6 @@
 pub mod Ends
 pub mod Does
+pub mod Sound
 pub mod State
 pub mod Whole
 pub mod NoChange
@@ -13,4 +14,3 @@ pub mod Looking
 pub mod Polls
 pub mod OffDelay
 pub mod Demand
-pub mod Sound

@@ -1,4 +1,4 @@
--- Demand 3, from the meter's theorem that the test at the door never bites.
+-- Demand 3 for one accepted configuration, sentence by sentence.
 use mathlib.Core.Path.{_≡_, refl, subst}
 use Prim.Native.Nat.{_≤_}
 use Rattle.exact.proofs.Z.{from-to}
@@ -8,7 +8,6 @@ use Rattle.config.specs.declared.Config.{Config}
 use Rattle.config.specs.declared.Verdict.the-variants.{Accepted}
 use Rattle.instrument.specs.declared.Instrument.{Instrument}
 use Rattle.looking.specs.History.{nodeOf}
-use Rattle.looking.specs.StaysSound.{StaysSound}
 use Rattle.looking.specs.Looking.{Alike, Looking}
 use Rattle.looking.proofs.State.{holds, same-instrument}
 use Rattle.looking.proofs.Replay.{replay-keeps, replayed}
@@ -37,22 +36,22 @@ alike-self c i =
     }
 
 node-99 : (c : Config) → judged c ≡ Accepted → nodeOf c ≤ 99
-node-99 c accepted = from-to (c .node) 0 99 (node-in c accepted) .1 .1
+node-99 c accepted = from-to (c .talking .node) 0 99 (node-in c accepted) .1 .1
 
-pub looking : StaysSound → (c : Config) → judged c ≡ Accepted → Looking c
-looking stays c accepted =
+pub looking : (c : Config) → judged c ≡ Accepted → Looking c
+looking c accepted =
     record {
-      holds = holds stays c accepted;
-      alike = λ h₁ h₂ e. subst (Alike c _) (same-instrument stays c accepted h₁ h₂ e) (alike-self c _);
-      replayed = replayed c stays accepted;
+      holds = holds c accepted;
+      alike = λ h₁ h₂ e. subst (Alike c _) (same-instrument c accepted h₁ h₂ e) (alike-self c _);
+      replayed = replayed c accepted;
       kept-again = replay-keeps c;
       t-reads = λ r h. t-reads (nodeOf c) (node-99 c accepted) r h;
       p-reads = p-reads (nodeOf c) (node-99 c accepted);
-      same-reply = same-reply stays c accepted;
-      same-print = same-print stays c accepted;
-      coming-in = coming-in stays c accepted;
-      dropping = dropping stays c accepted;
-      other-node = other-node stays c accepted;
-      only-ours = only-ours stays c accepted;
-      unmoved = unmoved stays c accepted;
+      same-reply = same-reply c accepted;
+      same-print = same-print c accepted;
+      coming-in = coming-in c accepted;
+      dropping = dropping c accepted;
+      other-node = other-node c accepted;
+      only-ours = only-ours c accepted;
+      unmoved = unmoved c accepted;
     }

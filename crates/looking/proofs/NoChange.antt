@@ -3,18 +3,23 @@ use mathlib.Core.Path.{_≡_, refl}
 use mathlib.Core.Bool.{Bool, true, false}
 use mathlib.Core.List.{List}
 use mathlib.Core.Logic.{_≢_}
-use mathlib.Core.Option.{some}
+use mathlib.Core.Option.{none, some}
 use Prim.Native.Nat.{ℕ}
 use native.Mathlib.Omega.{arith}
+use Rattle.exact.proofs.Z.{and-false}
+use Rattle.config.specs.declared.Config.{Config}
+use Rattle.receiver.specs.Receiver.{ends}
 use Rattle.command.specs.Addressed.{addressed}
 use Rattle.command.specs.declared.Asked.{Asked}
 use Rattle.command.specs.declared.Asked.the-variants.{Read, Print, Reset, Write, Status}
-use Rattle.form.specs.Grammar.{Says, No-digit}
+use Rattle.form.specs.Grammar.{Says, NoDigit}
 use Rattle.form.specs.Change as form
-use Rattle.form.specs.Change.{alters, change, V-or-R, Change}
+use Rattle.form.specs.Change.{alters, change, VOrR, Change}
 use Rattle.form.specs.Understood.{Silent}
 use Rattle.form.proofs.Meaning.{one-meaning, one-node, nobody, addressed-to}
 use Rattle.form.proofs.Permitted.{changes}
+use Rattle.looking.specs.History.{byte, nodeOf}
+use Rattle.looking.specs.Kept.{keeps}
 use Rattle.looking.specs.Sent as sent
 use Rattle.looking.specs.Sent.{Reads}
 
@@ -31,7 +36,7 @@ record Said (s : List ℕ) (n : ℕ) : Type 0 where
   pub says : Says s n asked
   pub changing : alters asked ≡ true
 
-said : {s : List ℕ} {n : ℕ} → V-or-R s n → Said s n
+said : {s : List ℕ} {n : ℕ} → VOrR s n → Said s n
 said (form.reset {r} x) = record { asked = Reset r; says = x; changing = refl }
 said (form.write {r} {z} x) = record { asked = Write r z; says = x; changing = refl }
 said (form.status {b} x) = record { asked = Status b; says = x; changing = refl }
@@ -51,9 +56,13 @@ module _ (n : ℕ) (s : List ℕ) where
   pub silent-changes-not : Silent s n → change n s ≡ false
   silent-changes-not x = no-change n s (λ y. let q = said (y .says) in x (q .asked) (q .says))
 
-  pub no-digit-changes-not : No-digit s → change n s ≡ false
+  pub no-digit-changes-not : NoDigit s → change n s ≡ false
   no-digit-changes-not x = no-change n s (λ y. nobody s .0 x n (said (y .says) .says .to))
 
   -- a string for another node
   pub other-changes-not : (m : ℕ) → addressed s ≡ some m → m ≢ n → change n s ≡ false
   other-changes-not m e d = no-change n s (λ y. d (one-node s m n (addressed-to s m .0 e) (said (y .says) .says .to)))
+
+-- nothing is kept where such a string ends
+pub keeps-idle : (c : Config) (s : List ℕ) (b place : ℕ) (buffer : List ℕ) → change (nodeOf c) s ≡ false → keeps c s (byte b place buffer) ≡ none
+keeps-idle c s b place buffer e = rw (e, and-false (ends b))

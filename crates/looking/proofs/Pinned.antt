@@ -1,41 +1,32 @@
 -- Where the kept list grows, and where it stays as it was.
-use mathlib.Core.Path.{_≡_, refl}
-use mathlib.Core.Bool.{Bool, true, false, cond, _&&_}
-use mathlib.Core.List.{List, _∷_}
-use mathlib.Core.Logic.{_≢_}
-use mathlib.Core.Option.{none, some}
+use mathlib.Core.Path.{_≡_, refl, ap}
+use mathlib.Core.Bool.{false}
+use mathlib.Core.Option.{Option}
 use Prim.Native.Nat.{ℕ}
 use native.Mathlib.Omega.{arith}
-use lib.IntN.{ℤ, pos}
+use lib.IntN.{pos}
 use Rattle.exact.proofs.Z.{eqZ-false}
 use Rattle.config.specs.declared.Config.{Config}
 use Rattle.form.specs.Change.{change}
 use Rattle.form.proofs.Permitted.{changes}
 use Rattle.looking.specs.History.{History, nodeOf, half}
-use Rattle.looking.specs.Kept.{Kept, told, ends, add, kept}
+use Rattle.looking.specs.Kept.{Entry, add, kept}
 use Rattle.looking.specs.Sent.{read, print}
 use Rattle.looking.specs.Pinned.{Stays, Pinned}
 use Rattle.looking.proofs.Ends.{not-ends, drop-not-ends, drop-ending}
 use Rattle.looking.proofs.Whole.{half-none, kept-none}
-use Rattle.looking.proofs.NoChange.{no-change, read-changes-not, silent-changes-not, no-digit-changes-not, other-changes-not}
+use Rattle.looking.proofs.NoChange.{no-change, read-changes-not, silent-changes-not, no-digit-changes-not, other-changes-not, keeps-idle}
 
 module _ (c : Config) (h : History) where
-  unchanged : (t u : Bool) (k : Kept) (ks : List Kept) → u ≡ false → add (cond (t && u) (some k) none) ks ≡ ks
-  unchanged true u k ks e = rw e
-  unchanged false u k ks e = refl
-
   -- nothing is kept of a string that is no V or R to this meter
   stays : (b : ℕ) → change (nodeOf c) (half h) ≡ false → Stays c h b
-  stays b e place buffer = unchanged (ends b) (change (nodeOf c) (half h)) (told (half h)) (kept c h) e
-
-  at-key : (k : ℤ) → k ≢ pos 6 → (t : Bool) → t ≡ false → (w : Kept) (ks : List Kept) → add (cond t none (some w)) ks ≡ w ∷ ks
-  at-key k n t e w ks = rw e
+  stays b e place buffer = ap (λ (o : Option Entry). add o (kept c h)) (keeps-idle c (half h) b place buffer e)
 
   pub pinned : Pinned c h
   pinned =
       record {
         at-sample = λ x. refl;
-        at-key = λ k place buffer n. at-key k n _ (eqZ-false k (pos 6) n) _ _;
+        at-key = λ k place buffer n. rw (eqZ-false k (pos 6) n);
         at-change = λ b place buffer e x. rw (e, changes (half h) (nodeOf c) .1 x);
         at-print-key = λ place buffer. refl;
         at-part = λ b e place buffer. kept-none c b place buffer h (not-ends b e);

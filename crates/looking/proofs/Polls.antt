@@ -14,7 +14,6 @@ use Rattle.command.specs.declared.Asked.{Asked}
 use Rattle.looking.specs.History.{sample, History, nodeOf, half}
 use Rattle.looking.specs.Sent.{sending, Reads}
 use Rattle.looking.specs.Inserted.{read, Inserted, power-up, event, begins, part, ended}
-use Rattle.looking.specs.StaysSound.{StaysSound}
 use Rattle.looking.specs.Polls.{lent, poll, polls, polled, Unmoved}
 use Rattle.looking.proofs.Unmoved.{unmoved}
 use Rattle.looking.proofs.Whole.{half-none, short-reads}
@@ -39,5 +38,5 @@ module _ (c : Config) (s : List ℕ) (a : Asked) (x : Reads s (nodeOf c) a) wher
   polled-in n [] = (refl, power-up)
   polled-in n (y ∷ xs) = let p = polled-in n xs in polls-in n (p .0) (event (sample y) (p .1))
 
-pub polls-unmoved : StaysSound → (c : Config) → judged c ≡ Accepted → Unmoved c
-polls-unmoved stays c accepted s a x n xs = unmoved stays c accepted (polled s 0 xs) (polled s n xs) (polled-in c s a x n xs .1)
+pub polls-unmoved : (c : Config) → judged c ≡ Accepted → Unmoved c
+polls-unmoved c accepted s a x n xs = unmoved c accepted (polled s 0 xs) (polled s n xs) (polled-in c s a x n xs .1)

@@ -10,13 +10,13 @@ use Rattle.config.specs.Config.{judged}
 use Rattle.config.specs.declared.Config.{Config}
 use Rattle.config.specs.declared.Verdict.the-variants.{Accepted}
 use Rattle.register.specs.Bytes.{byte as char}
+use Rattle.receiver.specs.Receiver.{ends}
 use Rattle.receiver.specs.Since.{since, Unbroken, more, Begun, at-power-up, behind}
 use Rattle.receiver.proofs.Beginning.{begun}
 use Rattle.form.specs.Change.{change}
-use Rattle.looking.specs.History.{Event, sample, key, byte, History, run, bytesOf, nodeOf, half}
-use Rattle.looking.specs.Kept.{Kept, measured, pressed, told, prints, ends, keeps, add, kept}
+use Rattle.looking.specs.History.{Event, sample, key, byte, History, meterAfter, bytesOf, nodeOf, half}
+use Rattle.looking.specs.Kept.{Entry, measured, pressed, told, prints, keeps, add, kept}
 use Rattle.looking.specs.Sent.{sending}
-use Rattle.looking.specs.StaysSound.{StaysSound}
 use Rattle.looking.specs.Looking.{playing, replay}
 use Rattle.looking.proofs.Ends.{not-ends}
 use Rattle.looking.proofs.State.{same-instrument}
@@ -43,22 +43,22 @@ unbroken-half h = unbroken-begun (begun (bytesOf h))
 
 module _ (c : Config) where
   -- an entry that a history can leave
-  abbrev Fits : Kept → Type 0
+  abbrev Fits : Entry → Type 0
   Fits (measured x) = Unit {0}
   Fits (pressed k) = prints k ≡ false
   Fits (told s) = Unbroken s × (change (nodeOf c) s ≡ true)
 
-  abbrev AllFit : List Kept → Type 0
+  abbrev AllFit : List Entry → Type 0
   AllFit [] = Unit {0}
   AllFit (k ∷ ks) = Fits k × AllFit ks
 
   -- ── what a history leaves fits ──
 
-  abbrev OneFits : Option Kept → Type 0
+  abbrev OneFits : Option Entry → Type 0
   OneFits none = Unit {0}
   OneFits (some k) = Fits k
 
-  add-fits : (o : Option Kept) (ks : List Kept) → OneFits o → AllFit ks → AllFit (add o ks)
+  add-fits : (o : Option Entry) (ks : List Entry) → OneFits o → AllFit ks → AllFit (add o ks)
   add-fits none ks f a = a
   add-fits (some k) ks f a = (f, a)
 
@@ -82,30 +82,30 @@ module _ (c : Config) where
 
   -- ── what fits is kept again ──
 
-  told-kept : (s t : List ℕ) (ks : List Kept) → t ≡ s → change (nodeOf c) s ≡ true → add (keeps c t (byte (char "*") 0 [])) ks ≡ told s ∷ ks
+  told-kept : (s t : List ℕ) (ks : List Entry) → t ≡ s → change (nodeOf c) s ≡ true → add (keeps c t (byte (char "*") 0 [])) ks ≡ told s ∷ ks
   told-kept s t ks e q = rw (e, q)
 
-  playing-half : (k : Kept) (h : History) → half h ≡ [] → half (playing k h) ≡ []
+  playing-half : (k : Entry) (h : History) → half h ≡ [] → half (playing k h) ≡ []
   playing-half (measured x) h e = e
   playing-half (pressed k) h e = e
   playing-half (told s) h e = half-none (char "*") 0 [] (sending 0 [] s h) refl
 
-  playing-kept : (k : Kept) (h : History) → half h ≡ [] → Fits k → kept c (playing k h) ≡ k ∷ kept c h
+  playing-kept : (k : Entry) (h : History) → half h ≡ [] → Fits k → kept c (playing k h) ≡ k ∷ kept c h
   playing-kept (measured x) h e f = refl
   playing-kept (pressed k) h e f = rw f
   playing-kept (told s) h e f =
       told-kept s (half (sending 0 [] s h)) (kept c (sending 0 [] s h)) (half-sending 0 [] s h (f .0) ∙ rw e) (f .1)
-      ∙ ap (λ (ks : List Kept). told s ∷ ks) (kept-sending 0 [] c s h (f .0))
+      ∙ ap (λ (ks : List Entry). told s ∷ ks) (kept-sending 0 [] c s h (f .0))
 
-  kept-replay : (ks : List Kept) → AllFit ks → (kept c (replay ks) ≡ ks) × (half (replay ks) ≡ [])
+  kept-replay : (ks : List Entry) → AllFit ks → (kept c (replay ks) ≡ ks) × (half (replay ks) ≡ [])
   unfolding since
   kept-replay [] a = (refl, refl)
   kept-replay (k ∷ ks) a =
       let r = kept-replay ks (a .1) in
-      (playing-kept k (replay ks) (r .1) (a .0) ∙ ap (λ (l : List Kept). k ∷ l) (r .0), playing-half k (replay ks) (r .1))
+      (playing-kept k (replay ks) (r .1) (a .0) ∙ ap (λ (l : List Entry). k ∷ l) (r .0), playing-half k (replay ks) (r .1))
 
   pub replay-keeps : (h : History) → kept c (replay (kept c h)) ≡ kept c h
   replay-keeps h = kept-replay (kept c h) (kept-fits h) .0
 
-  pub replayed : StaysSound → judged c ≡ Accepted → (h : History) → run c (replay (kept c h)) .instrument ≡ run c h .instrument
-  replayed stays accepted h = same-instrument stays c accepted (replay (kept c h)) h (replay-keeps h)
+  pub replayed : judged c ≡ Accepted → (h : History) → meterAfter c (replay (kept c h)) .instrument ≡ meterAfter c h .instrument
+  replayed accepted h = same-instrument c accepted (replay (kept c h)) h (replay-keeps h)

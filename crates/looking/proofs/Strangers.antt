@@ -11,16 +11,15 @@ use lib.Dec.{eqb}
 use lib.IntN.{ℤ, pos}
 use lib.ListN.{length}
 use Rattle.exact.specs.Sign.{eqZ}
-use Rattle.exact.proofs.Z.{eqZ-true}
+use Rattle.exact.proofs.Z.{either, eqZ-true}
 use Rattle.config.specs.Config.{judged}
 use Rattle.config.specs.declared.Config.{Config}
 use Rattle.config.specs.declared.Verdict.the-variants.{Accepted}
-use Rattle.receiver.specs.Receiver.{limit, over, kind, store, heard}
+use Rattle.receiver.specs.Receiver.{bytes, too-long, ends, drops, limit, over, kind, store, heard}
 use Rattle.receiver.specs.Since.{ending, hearing}
-use Rattle.receiver.specs.declared.Kind.{Kind}
 use Rattle.receiver.specs.declared.Kind.the-variants.{End, Drop, Part}
 use Rattle.command.specs.Addressed as addresses
-use Rattle.command.specs.Addressed.{node-of}
+use Rattle.command.specs.Addressed.{parsedNode}
 use Rattle.command.proofs.Addressed.{parsed-node}
 use Rattle.command.specs.Parse.{parse}
 use Rattle.command.specs.declared.Asked.{Asked}
@@ -29,79 +28,101 @@ use Rattle.command.specs.declared.Parsed.{Parsed}
 use Rattle.command.specs.declared.Parsed.the-variants.{NoNode, To}
 use Rattle.form.specs.Grammar.{Says}
 use Rattle.form.proofs.Meaning.{asked}
-use Rattle.instrument.specs.Instrument.{batched, permit}
+use Rattle.outputs.specs.declared.Permit.{Permit}
+use Rattle.outputs.specs.declared.Permit.the-variants.{Allowed, OutOfRange, InAutomatic}
+use Rattle.instrument.specs.Instrument.{permit}
 use Rattle.instrument.specs.declared.Instrument.{Instrument}
-use Rattle.instrument.specs.declared.Permit.{Permit}
-use Rattle.instrument.specs.declared.Permit.the-variants.{Allowed, OutOfRange, InAutomatic}
+use Rattle.effect.specs.Effect.{Effect, stands, replies, settled, settle, written, carried, addressed, pressed}
+use Rattle.effect.specs.declared.Settled.{Settled}
 use Rattle.answer.specs.Answer.{number}
-use Rattle.meter.specs.Sound.{sound}
-use Rattle.meter.specs.Meter.{outcome, Step, step, withReceiver, emptied, writtenBy, carried, addressed, ended, byKind, received, pressed, batchKey, done, withInstrument}
 use Rattle.answer.specs.declared.Answer.the-variants.{Done, Stored, OtherNode, Dropped, TooLong, UnknownKey, NotStarted}
+use Rattle.meter.specs.Door.{sound, hears, reachOf}
+use Rattle.meter.specs.Meter.{outcome, Step, step, withReceiver, emptied, settledIn, byKind, received}
 use Rattle.meter.specs.declared.Meter.{Meter}
-use Rattle.promises.proofs.Door.{keyed-in, received-in}
-use Rattle.looking.specs.History.{Event, sample, key, byte, History, outcomeOf, run, nodeOf, half}
-use Rattle.looking.specs.Kept.{prints, ends, drops}
+use Rattle.promises.proofs.Door.{stands-open, keyed-in, received-in, received-as, endedAs, at-end}
+use Rattle.looking.specs.History.{Event, sample, key, byte, History, outcomeOf, meterAfter, nodeOf, half}
+use Rattle.looking.specs.Kept.{prints}
 use Rattle.looking.specs.Sent as sent
 use Rattle.looking.specs.Sent.{Reads}
-use Rattle.looking.specs.StaysSound.{StaysSound}
 use Rattle.looking.specs.Looking.{Draws}
-use Rattle.looking.proofs.Ends.{at-end, end-kind, part-kind, drop-kind}
-use Rattle.looking.proofs.State.{sound-run, heard-run, config-run}
+use Rattle.looking.proofs.Ends.{end-kind, part-kind, drop-kind}
+use Rattle.looking.proofs.State.{sound-after, heard-after, config-after}
 
 -- ── a string for another node ──
 
-module _ (m : Meter) (buffer : List ℕ) (place : ℕ) where
-  other-parsed : (p : Parsed) (n : ℕ) → node-of p ≡ some n → n ≢ nodeOf (m .config) → addressed m p buffer place ≡ step OtherNode (emptied m) buffer
-  other-parsed NoNode n e d = absurd (let z : _≡_ {A = ℕ} 0 1 = cc in omega arith)
-  other-parsed (To k a) n e d = let i : k ≡ n = cc in rw (ne-eqb k (nodeOf (m .config)) (λ q. d (sym i ∙ q)))
+other-parsed : (c : Config) (i : Instrument) (p : Parsed) (n : ℕ) → parsedNode p ≡ some n → n ≢ nodeOf c
+    → addressed (c .talking) (c .working) i p ≡ stands (settled OtherNode i)
+other-parsed c i NoNode n e d = absurd (let z : _≡_ {A = ℕ} 0 1 = cc in omega arith)
+other-parsed c i (To k a) n e d = let q : k ≡ n = cc in rw (ne-eqb k (nodeOf c) (λ r. d (sym q ∙ r)))
 
-  other-ended : (s : List ℕ) (n : ℕ) (t : Bool) → addresses.addressed s ≡ some n → n ≢ nodeOf (m .config)
-      → cond t (step TooLong (emptied m) buffer) (addressed m (parse s) buffer place) ≡ step (cond t TooLong OtherNode) (emptied m) buffer
-  other-ended s n true e d = refl
-  other-ended s n false e d = other-parsed (parse s) n (parsed-node s ∙ e) d
+other-ended : (m : Meter) (s : List ℕ) (n : ℕ) (t : Bool) → addresses.addressed s ≡ some n → n ≢ nodeOf (m .config)
+    → endedAs m (cond t too-long (bytes s)) ≡ stands (settled (cond t TooLong OtherNode) (m .instrument))
+other-ended m s n true e d = refl
+other-ended m s n false e d = other-parsed (m .config) (m .instrument) (parse s) n (parsed-node s ∙ e) d
 
 -- ── what draws a reply ──
 
 found : (s : List ℕ) (n : ℕ) (a : Asked) → parse s ≡ To n a → a ≢ BadForm → Says s n a
 found s n a p h = asked s n a .1 (p, h)
 
-module _ (m : Meter) (s : List ℕ) (buffer : List ℕ) (place : ℕ) where
-  write-silent : (r : ℕ) (z : ℤ) (p : Permit) → number (writtenBy m r z buffer p .outcome .answer) ≢ 2
+module _ (c : Config) (i : Instrument) (buffer : List ℕ) (place : ℕ) where
+  -- where an effect draws a reply, X holds
+  abbrev Drawn : Type 0 → Effect → Type 0
+  Drawn X e = number (settle i e buffer place .settled .answer) ≡ 2 → X
+
+  -- what is settled as it stands draws none
+  abbrev Silent : Settled → Type 0
+  Silent s = number (s .answer) ≢ 2
+
+  write-silent : (r : ℕ) (z : ℤ) (p : Permit) → Silent (written (c .working) i r z p)
   write-silent r z Allowed e = omega arith
   write-silent r z OutOfRange e = omega arith
   write-silent r z InAutomatic e = omega arith
 
-  drawn-asked : (n : ℕ) (a : Asked) → parse s ≡ To n a → number (carried m a buffer place .outcome .answer) ≡ 2 → (b : Asked) × Reads s n b
-  drawn-asked n (Read r) p e = (Read r, sent.read (found s n (Read r) p (λ k. let z : _≡_ {A = ℕ} 0 1 = cc in omega arith)))
-  drawn-asked n Print p e = (Print, sent.print (found s n Print p (λ k. let z : _≡_ {A = ℕ} 0 1 = cc in omega arith)))
-  drawn-asked n (Reset r) p e = absurd (omega arith)
-  drawn-asked n (Write r z) p e = absurd (write-silent r z (permit (m .instrument .mode) r z) e)
-  drawn-asked n (Status b) p e = absurd (omega arith)
-  drawn-asked n BadForm p e = absurd (omega arith)
+  drawn-asked : (s : List ℕ) (n : ℕ) (a : Asked) → parse s ≡ To n a → Drawn ((b : Asked) × Reads s n b) (carried (c .talking) (c .working) i a)
+  drawn-asked s n (Read r) p e = (Read r, sent.read (found s n (Read r) p (λ k. let z : _≡_ {A = ℕ} 0 1 = cc in omega arith)))
+  drawn-asked s n Print p e = (Print, sent.print (found s n Print p (λ k. let z : _≡_ {A = ℕ} 0 1 = cc in omega arith)))
+  drawn-asked s n (Reset r) p e = absurd (omega arith)
+  drawn-asked s n (Write r z) p e = absurd (write-silent r z (permit (i .outputs .mode) r z) e)
+  drawn-asked s n (Status b) p e = absurd (omega arith)
+  drawn-asked s n BadForm p e = absurd (omega arith)
 
-  drawn-node : (n : ℕ) (a : Asked) (t : Bool) → parse s ≡ To n a → eqb n (nodeOf (m .config)) ≡ t
-      → number (cond t (carried m a buffer place) (step OtherNode (emptied m) buffer) .outcome .answer) ≡ 2 → (b : Asked) × Reads s (nodeOf (m .config)) b
-  drawn-node n a true p q e = drawn-asked (nodeOf (m .config)) a (p ∙ ap (λ (k : ℕ). To k a) (eqb-true n (nodeOf (m .config)) q)) e
-  drawn-node n a false p q e = absurd (omega arith)
+  drawn-node : (s : List ℕ) (n : ℕ) (a : Asked) (t : Bool) → parse s ≡ To n a → eqb n (nodeOf c) ≡ t
+      → Drawn ((b : Asked) × Reads s (nodeOf c) b) (cond t (carried (c .talking) (c .working) i a) (stands (settled OtherNode i)))
+  drawn-node s n a true p q e = drawn-asked s (nodeOf c) a (p ∙ ap (λ (k : ℕ). To k a) (eqb-true n (nodeOf c) q)) e
+  drawn-node s n a false p q e = absurd (omega arith)
 
-  drawn-parsed : (p : Parsed) → parse s ≡ p → number (addressed m p buffer place .outcome .answer) ≡ 2 → (b : Asked) × Reads s (nodeOf (m .config)) b
-  drawn-parsed NoNode p e = absurd (omega arith)
-  drawn-parsed (To n a) p e = drawn-node n a (eqb n (nodeOf (m .config))) p refl e
+  drawn-parsed : (s : List ℕ) (p : Parsed) → parse s ≡ p → Drawn ((b : Asked) × Reads s (nodeOf c) b) (addressed (c .talking) (c .working) i p)
+  drawn-parsed s NoNode p e = absurd (omega arith)
+  drawn-parsed s (To n a) p e = drawn-node s n a (eqb n (nodeOf c)) p refl e
 
-  drawn-long : (t : Bool) → over (length s) ≡ t
-      → number (cond t (step TooLong (emptied m) buffer) (addressed m (parse s) buffer place) .outcome .answer) ≡ 2
-      → (length s ≤ 32) × ((b : Asked) × Reads s (nodeOf (m .config)) b)
-  drawn-long true q e = absurd (omega arith)
-  drawn-long false q e = (ltb-false limit (length s) q, drawn-parsed (parse s) refl e)
+  -- of keys 1 to 5 and of unknown ones none is answered by 2
+  drawn-print : (reply : List ℕ) (t : Bool) → Drawn (t ≡ true) (cond t (replies reply i) (stands (settled UnknownKey i)))
+  drawn-print reply true e = refl
+  drawn-print reply false e = absurd (omega arith)
 
-  drawn-end : heard (m .receiver) ≡ hearing s → number (ended m buffer place .outcome .answer) ≡ 2
-      → (length s ≤ 32) × ((b : Asked) × Reads s (nodeOf (m .config)) b)
-  drawn-end h e = drawn-long (over (length s)) refl (rw (at-end m buffer place s h) at e)
+  abbrev ByKey : ℤ → Effect → Type 0
+  ByKey k = Drawn (prints k ≡ true)
+
+  drawn-key : (k : ℤ) → ByKey k (pressed (c .talking) (c .working) i k)
+  drawn-key k =
+      either (ByKey k) (eqZ k (pos 1)) (λ e. absurd (either Silent (c .working .totalizer .batch) (λ q. omega arith) (λ q. omega arith) e))
+      (either (ByKey k) (eqZ k (pos 2)) (λ e. absurd (omega arith))
+      (either (ByKey k) (eqZ k (pos 3)) (λ e. absurd (omega arith))
+      (either (ByKey k) (eqZ k (pos 4)) (λ e. absurd (omega arith))
+      (either (ByKey k) (eqZ k (pos 5)) (λ e. absurd (omega arith))
+      (drawn-print _ (prints k))))))
+
+module _ (m : Meter) (s : List ℕ) (buffer : List ℕ) (place : ℕ) where
+  drawn-end : (t : Bool) → over (length s) ≡ t
+      → Drawn (m .config) (m .instrument) buffer place ((length s ≤ 32) × ((b : Asked) × Reads s (nodeOf (m .config)) b)) (endedAs m (cond t too-long (bytes s)))
+  drawn-end true q e = absurd (omega arith)
+  drawn-end false q e = (ltb-false limit (length s) q, drawn-parsed (m .config) (m .instrument) buffer place s (parse s) refl e)
 
   drawn-kind : (b : ℕ) (t u : Bool) → heard (m .receiver) ≡ hearing s
       → number (byKind m b buffer place (cond t End (cond u Drop Part)) .outcome .answer) ≡ 2
       → (t ≡ true) × (length s ≤ 32) × ((a : Asked) × Reads s (nodeOf (m .config)) a)
-  drawn-kind b true u h e = let d = drawn-end h e in (refl, d .0, d .1)
+  drawn-kind b true u h e = let d = drawn-end (over (length s)) refl (rw (at-end m (hearing s) h) at e) in (refl, d .0, d .1)
   drawn-kind b false true h e = absurd (omega arith)
   drawn-kind b false false h e = absurd (omega arith)
 
@@ -110,65 +131,42 @@ module _ (m : Meter) (s : List ℕ) (buffer : List ℕ) (place : ℕ) where
   unfolding kind
   drawn-byte b h e = drawn-kind b (ends b) (drops b) h e
 
--- ── keys and samples ──
-
-module _ (m : Meter) (buffer : List ℕ) where
-  batch-silent : (t : Bool) (i : Instrument) → number (cond t (outcome Done (withInstrument m i)) (outcome UnknownKey m) .answer) ≢ 2
-  batch-silent true i e = omega arith
-  batch-silent false i e = omega arith
-
-  -- of keys 1 to 5 and of unknown ones none is answered by 2; o is what key 6 gives
-  drawn-key : (t₁ t₂ t₃ t₄ t₅ t₆ : Bool) (i₂ i₃ i₄ i₅ : Instrument) (o : Step)
-      → number
-      (cond t₁ (batchKey m buffer)
-      (cond t₂ (done m i₂ buffer) (cond t₃ (done m i₃ buffer) (cond t₄ (done m i₄ buffer) (cond t₅ (done m i₅ buffer) (cond t₆ o (step UnknownKey m buffer)))))) .outcome .answer)
-      ≡ 2
-      → t₆ ≡ true
-  drawn-key true t₂ t₃ t₄ t₅ t₆ i₂ i₃ i₄ i₅ o e = absurd (batch-silent (m .config .totalizer .batch) (batched (m .config .totalizer) (m .instrument)) e)
-  drawn-key false true t₃ t₄ t₅ t₆ i₂ i₃ i₄ i₅ o e = absurd (omega arith)
-  drawn-key false false true t₄ t₅ t₆ i₂ i₃ i₄ i₅ o e = absurd (omega arith)
-  drawn-key false false false true t₅ t₆ i₂ i₃ i₄ i₅ o e = absurd (omega arith)
-  drawn-key false false false false true t₆ i₂ i₃ i₄ i₅ o e = absurd (omega arith)
-  drawn-key false false false false false true i₂ i₃ i₄ i₅ o e = refl
-  drawn-key false false false false false false i₂ i₃ i₄ i₅ o e = absurd (omega arith)
-
-  drawn-pressed : (k : ℤ) (place : ℕ) → number (pressed m k buffer place .outcome .answer) ≡ 2 → k ≡ pos 6
-  drawn-pressed k place e =
-      eqZ-true k (pos 6) (drawn-key (eqZ k (pos 1)) (eqZ k (pos 2)) (eqZ k (pos 3)) (eqZ k (pos 4)) (eqZ k (pos 5)) (prints k) _ _ _ _ _ e)
-
 sample-silent : (t : Bool) (m n : Meter) → number (cond t (outcome Done m) (outcome NotStarted n) .answer) ≢ 2
 sample-silent true m n e = omega arith
 sample-silent false m n e = omega arith
 
+-- the same step, answered alike
+answers : {o p : Step} → o ≡ p → number (o .outcome .answer) ≡ 2 → number (p .outcome .answer) ≡ 2
+answers q e = rw q at e
+
 -- ── after a history ──
 
-module _ (stays : StaysSound) (c : Config) (accepted : judged c ≡ Accepted) where
-  node-run : (h : History) → nodeOf (run c h .config) ≡ nodeOf c
-  node-run h = ap nodeOf (config-run stays c accepted h)
+module _ (c : Config) (accepted : judged c ≡ Accepted) where
+  node-after : (h : History) → nodeOf (meterAfter c h .config) ≡ nodeOf c
+  node-after h = ap nodeOf (config-after c accepted h)
 
   pub coming-in : (h : History) (b place : ℕ) (buffer : List ℕ) → ending b ≡ false
-      → received (run c h) b buffer place ≡ step Stored (withReceiver (run c h) (store (run c h .receiver) b)) buffer
-  coming-in h b place buffer e =
-      received-in (run c h) buffer place b (sound-run stays c accepted h) ∙ ap (λ (k : Kind). byKind (run c h) b buffer place k) (part-kind b e)
+      → received (meterAfter c h) b buffer place ≡ step Stored (withReceiver (meterAfter c h) (store (meterAfter c h .receiver) b)) buffer
+  coming-in h b place buffer e = received-as (meterAfter c h) buffer place b Part (part-kind b e) (stands-open (meterAfter c h) hears (sound-after c accepted h))
 
-  pub dropping : (h : History) (b place : ℕ) (buffer : List ℕ) → drops b ≡ true → received (run c h) b buffer place ≡ step Dropped (emptied (run c h)) buffer
-  dropping h b place buffer e =
-      received-in (run c h) buffer place b (sound-run stays c accepted h) ∙ ap (λ (k : Kind). byKind (run c h) b buffer place k) (drop-kind b e)
+  pub dropping : (h : History) (b place : ℕ) (buffer : List ℕ) → drops b ≡ true → received (meterAfter c h) b buffer place ≡ step Dropped (emptied (meterAfter c h)) buffer
+  dropping h b place buffer e = received-as (meterAfter c h) buffer place b Drop (drop-kind b e) (stands-open (meterAfter c h) hears (sound-after c accepted h))
 
   pub other-node : (h : History) (n b place : ℕ) (buffer : List ℕ) → ends b ≡ true → addresses.addressed (half h) ≡ some n → n ≢ nodeOf c
-      → received (run c h) b buffer place ≡ step (cond (over (length (half h))) TooLong OtherNode) (emptied (run c h)) buffer
+      → received (meterAfter c h) b buffer place ≡ step (cond (over (length (half h))) TooLong OtherNode) (emptied (meterAfter c h)) buffer
   other-node h n b place buffer t e d =
-      received-in (run c h) buffer place b (sound-run stays c accepted h)
-      ∙ ap (λ (k : Kind). byKind (run c h) b buffer place k) (end-kind b t)
-      ∙ at-end (run c h) buffer place (half h) (heard-run stays c accepted h)
-      ∙ other-ended (run c h) buffer place (half h) n (over (length (half h))) e (λ q. d (q ∙ node-run h))
+      let m = meterAfter c h in
+      received-as m buffer place b End (end-kind b t) (sound-after c accepted h)
+      ∙ ap (λ (f : Effect). settledIn (emptied m) (settle (m .instrument) f buffer place))
+      (at-end m (hearing (half h)) (heard-after c accepted h) ∙ other-ended m (half h) n (over (length (half h))) e (λ q. d (q ∙ node-after h)))
 
-  pub only-ours : (h : History) (e : Event) → number (outcomeOf (run c h) e .answer) ≡ 2 → Draws c h e
-  only-ours h (sample x) e = absurd (sample-silent (sound (run c h)) _ _ e)
+  pub only-ours : (h : History) (e : Event) → number (outcomeOf (meterAfter c h) e .answer) ≡ 2 → Draws c h e
+  only-ours h (sample x) e = absurd (sample-silent (sound (meterAfter c h)) _ _ e)
   only-ours h (key k place buffer) e =
-      drawn-pressed (run c h) buffer k place
-      (sym (ap (λ (o : Step). number (o .outcome .answer)) (keyed-in (run c h) buffer place k (sound-run stays c accepted h))) ∙ e)
+      let m = meterAfter c h in
+      eqZ-true k (pos 6) (drawn-key (m .config) (m .instrument) buffer place k (answers (keyed-in m buffer place k (sound-after c accepted h)) e))
   only-ours h (byte b place buffer) e =
-      let d = drawn-byte (run c h) (half h) buffer place b (heard-run stays c accepted h)
-      (sym (ap (λ (o : Step). number (o .outcome .answer)) (received-in (run c h) buffer place b (sound-run stays c accepted h))) ∙ e) in
-      (d .0, d .1, (d .2 .0, subst (λ (n : ℕ). Reads (half h) n (d .2 .0)) (node-run h) (d .2 .1)))
+      let m = meterAfter c h in
+      let d = drawn-byte m (half h) buffer place b (heard-after c accepted h)
+      (answers (received-in m buffer place b (stands-open m (reachOf (kind b)) (sound-after c accepted h))) e) in
+      (d .0, d .1, (d .2 .0, subst (λ (n : ℕ). Reads (half h) n (d .2 .0)) (node-after h) (d .2 .1)))

@@ -8,6 +8,7 @@ use borrow.Author.Tests.{ne-eqb}
 use lib.ListN.{length, length-append}
 use Rattle.register.specs.Bytes.{byte as char}
 use Rattle.register.proofs.Table.{ruled}
+use Rattle.receiver.specs.Receiver.{ends}
 use Rattle.receiver.specs.Since.{ending, since, Unbroken, none, more}
 use Rattle.command.specs.declared.Asked.{Asked}
 use Rattle.command.specs.declared.Asked.the-variants.{Read, Print}
@@ -15,7 +16,7 @@ use Rattle.form.specs.Grammar as form
 use Rattle.form.specs.Grammar.{Digit, Letter, Address, Body}
 use Rattle.config.specs.declared.Config.{Config}
 use Rattle.looking.specs.History.{byte, History, half}
-use Rattle.looking.specs.Kept.{ends, kept}
+use Rattle.looking.specs.Kept.{kept}
 use Rattle.looking.specs.Sent as sent
 use Rattle.looking.specs.Sent.{Sent, Reads}
 use Rattle.looking.proofs.Ends.{not-ends}
@@ -64,7 +65,7 @@ plain-digit {b} g = plain b (omega (arith, g .is))
 plain-letter : {r l : ℕ} → Letter r l → ending l ≡ false
 plain-letter {r} {l} g = plain l (omega (arith, g .letter, ruled r (g .listed) .letter))
 
-pub unbroken-append : {s t : List ℕ} → Unbroken s → Unbroken t → Unbroken (s ++ t)
+unbroken-append : {s t : List ℕ} → Unbroken s → Unbroken t → Unbroken (s ++ t)
 unbroken-append none v = v
 unbroken-append (more e u) v = more e (unbroken-append u v)
 

@@ -29,12 +29,12 @@ abbrev pub lastOutcome : Config → History → Outcome
 lastOutcome c [] = poweredUp c
 lastOutcome c (e ∷ h) = outcomeOf (lastOutcome c h .meter) e
 
-abbrev pub run : Config → History → Meter
-run c h = lastOutcome c h .meter
+abbrev pub meterAfter : Config → History → Meter
+meterAfter c h = lastOutcome c h .meter
 
 -- its node
 abbrev pub nodeOf : Config → ℕ
-nodeOf c = natAbs (c .node)
+nodeOf c = natAbs (c .talking .node)
 
 -- the bytes of a history, newest first
 abbrev pub bytesOf : History → List ℕ

@@ -4,21 +4,23 @@ use mathlib.Core.Bool.{Bool, true, false, _||_}
 use mathlib.Core.List.{List, [], _∷_, _++_}
 use mathlib.Core.Logic.{_≢_}
 use mathlib.Core.Option.{Option, none, some}
-use Prim.Native.Nat.{ℕ, _-_, _≤_}
+use Prim.Native.Nat.{ℕ, _≤_}
 use lib.Dec.{eqb}
 use lib.IntN.{ℤ, pos}
 use Rattle.config.specs.declared.Config.{Config}
+use Rattle.register.specs.Registers.{at}
+use Rattle.receiver.specs.Receiver.{ends, drops}
 use Rattle.receiver.specs.Since.{ending}
 use Rattle.command.specs.Addressed.{addressed}
 use Rattle.command.specs.declared.Asked.{Asked}
 use Rattle.command.specs.declared.Asked.the-variants.{Write}
 use Rattle.form.specs.Grammar.{Says}
+use Rattle.alarms.specs.Alarms.{setpointOf}
+use Rattle.instrument.specs.Instrument.{alarmOf}
 use Rattle.instrument.specs.declared.Instrument.{Instrument}
 use Rattle.answer.specs.Answer.{number}
-use Rattle.meter.specs.Meter.{setpointOf}
 use Rattle.answer.specs.declared.Answer.{Answer}
-use Rattle.looking.specs.History.{Event, sample, key, byte, History, outcomeOf, run, nodeOf, half}
-use Rattle.looking.specs.Kept.{ends, drops}
+use Rattle.looking.specs.History.{Event, sample, key, byte, History, outcomeOf, meterAfter, nodeOf, half}
 use Rattle.looking.specs.Sent.{Reads}
 
 -- the refusals: another node, bad form, too long, outside the range, automatic mode, no room
@@ -31,7 +33,7 @@ pub data Idle (c : Config) (i : Instrument) (s : List ℕ) (answer : Answer) : T
   read : (a : Asked) → Reads s (nodeOf c) a → Idle c i s answer
   other-node : (n : ℕ) → addressed s ≡ some n → n ≢ nodeOf c → Idle c i s answer
   refused : refusal answer ≡ true → Idle c i s answer
-  rewrites : (r : ℕ) → 4 ≤ r → r ≤ 7 → Says s (nodeOf c) (Write r (setpointOf (i .alarms) (r - 4))) → Idle c i s answer
+  rewrites : (r : ℕ) → at "E" ≤ r → r ≤ at "H" → Says s (nodeOf c) (Write r (setpointOf (i .alarms) (alarmOf r))) → Idle c i s answer
 
 -- `Inserted c h g going`: g is h with looking put into it. Between the strings so put in `going` is none; while one comes in it is
 -- what has come of it
@@ -51,6 +53,6 @@ pub data Inserted (c : Config) : History → History → Option (List ℕ) → T
       → Inserted c (key k place buffer ∷ h) (key k place buffer ∷ g) (some s)
   -- it ends, and is idle there; or CR or LF drops it, as it does another meter's reply
   ended : {h g : History} {s : List ℕ} (b place : ℕ) (buffer : List ℕ) → ends b ≡ true
-      → Idle c (run c g .instrument) s (outcomeOf (run c g) (byte b place buffer) .answer) → Inserted c h g (some s) → Inserted c h (byte b place buffer ∷ g) none
+      → Idle c (meterAfter c g .instrument) s (outcomeOf (meterAfter c g) (byte b place buffer) .answer) → Inserted c h g (some s) → Inserted c h (byte b place buffer ∷ g) none
   dropped : {h g : History} {s : List ℕ} (b place : ℕ) (buffer : List ℕ) → drops b ≡ true → Inserted c h g (some s)
       → Inserted c h (byte b place buffer ∷ g) none

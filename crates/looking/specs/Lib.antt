@@ -4,7 +4,6 @@ pub mod Given
 pub mod Pinned
 pub mod Sent
 pub mod Inserted
-pub mod StaysSound
 pub mod Looking
 pub mod Polls
 pub mod Demand

@@ -8,14 +8,15 @@ use Prim.Native.Nat.{ℕ, _<_}
 use lib.IntN.{ℤ, pos}
 use lib.ListN.{length}
 use Rattle.config.specs.declared.Config.{Config}
+use Rattle.receiver.specs.Receiver.{ends, drops}
 use Rattle.receiver.specs.Since.{ending}
 use Rattle.command.specs.Addressed.{addressed}
 use Rattle.command.specs.declared.Asked.the-variants.{Read, Print}
-use Rattle.form.specs.Grammar.{Says, No-digit}
+use Rattle.form.specs.Grammar.{Says, NoDigit}
 use Rattle.form.specs.Change.{Change}
 use Rattle.form.specs.Understood.{Silent}
 use Rattle.looking.specs.History.{sample, key, byte, History, nodeOf, half}
-use Rattle.looking.specs.Kept.{measured, pressed, told, ends, drops, kept}
+use Rattle.looking.specs.Kept.{measured, pressed, told, kept}
 
 module _ (c : Config) (h : History) where
   -- a byte after h leaves the kept list as it was
@@ -40,7 +41,7 @@ module _ (c : Config) (h : History) where
     pub at-print : (b n : ℕ) → Says (half h) n Print → Stays b
     -- at bad form: nothing is asked of this meter, or N has no digit
     pub at-bad-form : (b : ℕ) → Silent (half h) (nodeOf c) → Stays b
-    pub at-no-digit : (b : ℕ) → No-digit (half h) → Stays b
+    pub at-no-digit : (b : ℕ) → NoDigit (half h) → Stays b
     -- at a string for another node, whatever its form
     pub at-other-node : (b n : ℕ) → addressed (half h) ≡ some n → n ≢ nodeOf c → Stays b
     -- over 32 bytes

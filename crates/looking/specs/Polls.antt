@@ -9,9 +9,9 @@ use Rattle.config.specs.Bench.{high, meterOf}
 use Rattle.config.specs.declared.Config.{Config}
 use Rattle.register.specs.Bytes.{byte as char, ascii}
 use Rattle.command.specs.declared.Asked.{Asked}
-use Rattle.instrument.specs.Instrument.{alarmAt}
+use Rattle.alarms.specs.Alarms.{alarmAt}
 use Rattle.answer.specs.Answer.{number}
-use Rattle.looking.specs.History.{sample, byte, History, lastOutcome, run, nodeOf}
+use Rattle.looking.specs.History.{sample, byte, History, lastOutcome, meterAfter, nodeOf}
 use Rattle.looking.specs.Sent.{sending, Reads}
 
 -- the lent buffer of the bench
@@ -33,7 +33,7 @@ polled s n (x ∷ xs) = polls s n (sample x ∷ polled s n xs)
 
 -- polls by a read leave the instrument as the samples alone do, whatever their number
 abbrev pub Unmoved : Config → Type 0
-Unmoved c = (s : List ℕ) (a : Asked) → Reads s (nodeOf c) a → (n : ℕ) (xs : List ℤ) → run c (polled s n xs) .instrument ≡ run c (polled s 0 xs) .instrument
+Unmoved c = (s : List ℕ) (a : Asked) → Reads s (nodeOf c) a → (n : ℕ) (xs : List ℤ) → meterAfter c (polled s n xs) .instrument ≡ meterAfter c (polled s 0 xs) .instrument
 
 -- ── an off delay ──
 
@@ -51,7 +51,7 @@ excursion n k = polled asking n (replicate k (pos 40) ++ pos 60 ∷ [])
 
 -- whether the first alarm is on then
 abbrev pub lit : ℕ → ℕ → Bool
-lit n k = alarmAt (run bench (excursion n k) .instrument .alarms) 0 .on
+lit n k = alarmAt (meterAfter bench (excursion n k) .instrument .alarms) 0 .on
 
 -- with n polls behind each sample: on through the third sample below, off at the fourth
 pub record InTime (n : ℕ) : Type 0 where

@@ -1,7 +1,7 @@
 -- Strings sent whole, what they ask to see, and what a reply is.
 use mathlib.Core.List.{List, [], _∷_, _++_}
-use Prim.Native.Nat.{ℕ, _+_, _/_, _%_, _≤_}
-use lib.ListN.{length, take, drop}
+use Prim.Native.Nat.{ℕ, _+_, _/_, _%_}
+use lib.ListN.{take, drop}
 use Rattle.config.specs.declared.Config.{Config}
 use Rattle.register.specs.Bytes.{byte as char}
 use Rattle.register.specs.Registers.{entry}
@@ -10,7 +10,8 @@ use Rattle.command.specs.declared.Asked.the-variants.{Read, Print, Reset, Write
 use Rattle.form.specs.Grammar.{Says}
 use Rattle.instrument.specs.declared.Instrument.{Instrument}
 use Rattle.answer.specs.Answer.{value}
-use Rattle.meter.specs.Meter.{Step, readReply, printReply}
+use Rattle.effect.specs.Reply.{readReply, printReply}
+use Rattle.meter.specs.Meter.{Step}
 use Rattle.looking.specs.History.{byte, History}
 
 -- h and then the bytes s, each with the same place and buffer
@@ -40,16 +41,12 @@ pString n = toNode n ++ char "P" ∷ []
 
 -- the bytes that T and P show of an instrument
 abbrev pub replyTo : Config → Instrument → Asked → List ℕ
-replyTo c i (Read r) = readReply c i r
-replyTo c i Print = printReply c i
+replyTo c i (Read r) = readReply (c .talking) (c .working) i r
+replyTo c i Print = printReply (c .talking) (c .working) i
 replyTo c i (Reset r) = []
 replyTo c i (Write r z) = []
 replyTo c i (Status b) = []
 replyTo c i BadForm = []
-
--- a reply has room in a buffer from a place on
-abbrev pub Room : List ℕ → ℕ → List ℕ → Type 0
-Room reply place buffer = place + length reply ≤ length buffer
 
 -- the bytes that stand in the buffer from the place on, as many as the answer says
 abbrev pub shownBy : Step → ℕ → List ℕ

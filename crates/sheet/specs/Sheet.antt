@@ -12,8 +12,8 @@ use Rattle.reading.specs.declared.Reading.{Reading}
 use Rattle.reading.specs.declared.Reading.the-variants.{Number, Over}
 use Rattle.config.specs.Bench.{high, undelayed, meterOf}
 use Rattle.config.specs.declared.Config.{Config}
-use Rattle.register.specs.Bytes.{byte, ascii}
-use Rattle.register.specs.Registers.{index}
+use Rattle.register.specs.Bytes.{ascii}
+use Rattle.register.specs.Registers.{at}
 use Rattle.instrument.specs.Shown.{shownAt}
 use Rattle.meter.specs.Meter.{poweredUp, sampled, received}
 use Rattle.meter.specs.declared.Meter.{Meter}
@@ -81,16 +81,16 @@ pub record Shown : Type 0 where
   pub reading : Reading
 
 abbrev INP : Reading → Shown
-INP r = record { register = index (byte "A"); reading = r }
+INP r = record { register = at "A"; reading = r }
 
 abbrev TOT : Reading → Shown
-TOT r = record { register = index (byte "B"); reading = r }
+TOT r = record { register = at "B"; reading = r }
 
 abbrev SP1 : Reading → Shown
-SP1 r = record { register = index (byte "E"); reading = r }
+SP1 r = record { register = at "E"; reading = r }
 
 abbrev CSR : Reading → Shown
-CSR r = record { register = index (byte "J"); reading = r }
+CSR r = record { register = at "J"; reading = r }
 
 -- a meter's configuration, the acts since power-up, the number of the last event's answer, and what is shown after it
 pub record Case : Type 0 where
@@ -152,7 +152,7 @@ pub record Result : Type 0 where
   pub shown : List Reading
 
 abbrev shownBy : Meter → List Shown → List Reading
-shownBy m l = map (λ (s : Shown). shownAt (m .config .totalizer) (m .instrument) (s .register)) l
+shownBy m l = map (λ (s : Shown). shownAt (m .config .working) (m .instrument) (s .register)) l
 
 -- as the meter has it
 abbrev pub found : Case → Result
