@@ -2,15 +2,15 @@
 -- Assumes nothing.
 use mathlib.Core.Path.{_≡_, refl}
 use mathlib.Core.List.{List, [], _∷_, _++_, map}
-use Prim.Native.Nat.{ℕ}
+use Prim.Native.Nat.{ℕ, _-_}
 use lib.IntN.{pos}
 use lib.ListN.{length}
 use Rattle.exact.specs.Sign.{minus}
 use Rattle.register.specs.Bytes.{ascii}
 use Rattle.text.specs.Number.{digits, value, naturalOf, signedOf, numberOf, flagOf}
 use Rattle.config.specs.Bench.{benchMeter}
-use Rattle.record.specs.Record.{words, same, oneWord, twoWords, kinds, settingsOf, configurationSaid, shortSaid, eventOf, readOf}
-use Rattle.record.specs.Configuration.{configOf}
+use Rattle.record.specs.Record.{wordCount, words, same, oneWord, twoWords, kinds, settingsOf, configurationSaid, shortSaid, eventOf, readOf}
+use Rattle.record.specs.Configuration.{inTurn, configOf}
 use Rattle.record.specs.declared.Event.{Event}
 use Rattle.record.specs.declared.Event.the-variants.{Configuration, Sample, Key, Byte, Bad}
 
@@ -75,10 +75,10 @@ rows =
     ∷ row (ascii "CFG 1 2  3") Bad 2
     ∷ row (ascii "CFG 1 x 3") Bad 1
     ∷ row (ascii "CFG 1" ++ (13 ∷ [])) Bad 0
-    ∷ row benchLine Configuration 73
-    ∷ row (benchLine ++ ascii " 0") Bad 73
-    ∷ row (benchLine ++ ascii " ") Bad 73
-    ∷ row (benchLine ++ ascii "1") Bad 72
+    ∷ row benchLine Configuration wordCount
+    ∷ row (benchLine ++ ascii " 0") Bad wordCount
+    ∷ row (benchLine ++ ascii " ") Bad wordCount
+    ∷ row (benchLine ++ ascii "1") Bad (wordCount - 1)
     ∷ row twoLine Bad 44
     ∷ []
 
@@ -88,5 +88,5 @@ cases = refl
 
 -- the line of the bench meter makes it
 pub bench-meter : configOf (readOf benchLine) ≡ benchMeter
-unfolding configOf readOf words same kinds settingsOf numberOf signedOf naturalOf digits value flagOf
+unfolding configOf inTurn readOf words same kinds settingsOf numberOf signedOf naturalOf digits value flagOf
 bench-meter = refl

@@ -17,7 +17,7 @@ use Rattle.text.specs.declared.Natural.{Natural}
 use Rattle.text.specs.declared.Natural.the-variants as natural
 use Rattle.text.specs.declared.Number.{Number}
 use Rattle.text.specs.declared.Number.the-variants as number
-use Rattle.record.specs.Record.{grown, led, words, joined, spaceless, Words, same, sampleOf, keyOf, byteOf, placeOf, oneWord, twoWords, kinds, settingsOf, configurationSaid, shortSaid, isCfg, saidBy, eventOf, readBy, readOf, stored, eventHeard, readHeard}
+use Rattle.record.specs.Record.{wordCount, grown, led, words, joined, spaceless, Words, same, sampleOf, keyOf, byteOf, placeOf, oneWord, twoWords, kinds, settingsOf, configurationSaid, shortSaid, isCfg, saidBy, eventOf, readBy, readOf, stored, eventHeard, readHeard}
 use Rattle.record.specs.declared.Event.{Event}
 use Rattle.record.specs.declared.Event.the-variants.{Configuration, Sample, Key, Byte, Bad}
 use Rattle.record.proofs.Words.{words-one, words-some}
@@ -147,7 +147,7 @@ short-part k ws = go (same k (ascii "S")) (same k (ascii "K")) (same k (ascii "B
     go false false true = two-part (λ (b place : List ℕ). byteOf (naturalOf 3 b) (placeOf place)) (λ a b. byte-part (naturalOf 3 a) (placeOf b)) ws
     go false false false = refl
 
-whole-read : (l : List ℕ) → Configuration ≡ eventOf l → length (readOf l) ≡ 73
+whole-read : (l : List ℕ) → Configuration ≡ eventOf l → length (readOf l) ≡ wordCount
 unfolding eventOf readOf configurationSaid isWhole
 whole-read l e = go (words l) e
   where
@@ -157,16 +157,16 @@ whole-read l e = go (words l) e
     said false u e = never (sym (ap isWhole e))
 
     by : (t : Bool) (k : List ℕ) (ws : List (List ℕ)) → Configuration ≡ cond t (configurationSaid ws) (shortSaid k ws)
-        → length (cond t (settingsOf kinds ws) []) ≡ 73
-    by true k ws e = eqb-true (length (settingsOf kinds ws)) 73 (said (eqb (length ws) 73) (eqb (length (settingsOf kinds ws)) 73) e)
+        → length (cond t (settingsOf kinds ws) []) ≡ wordCount
+    by true k ws e = eqb-true (length (settingsOf kinds ws)) wordCount (said (eqb (length ws) wordCount) (eqb (length (settingsOf kinds ws)) wordCount) e)
     by false k ws e = never (sym (ap isWhole e ∙ short-part k ws))
 
-    go : (ws : List (List ℕ)) → Configuration ≡ saidBy ws → length (readBy ws) ≡ 73
+    go : (ws : List (List ℕ)) → Configuration ≡ saidBy ws → length (readBy ws) ≡ wordCount
     go [] e = never (sym (ap isWhole e))
     go (k ∷ ws) e = by (isCfg k) k ws e
 
--- in an array of 73, they are what it then holds
-pub configured : (h : Heard) (old : List ℤ) → Configuration ≡ eventHeard h → length old ≡ 73 → stored 0 old (readHeard h) ≡ readHeard h
+-- in an array of as many, they are what it then holds
+pub configured : (h : Heard) (old : List ℤ) → Configuration ≡ eventHeard h → length old ≡ wordCount → stored 0 old (readHeard h) ≡ readHeard h
 unfolding eventHeard readHeard isWhole
 configured (bytes l) old e n = stored-all old (readOf l) (whole-read l e ∙ sym n)
 configured long old e n = never (sym (ap isWhole e))

@@ -7,8 +7,9 @@ use lib.ListN.{length}
 use Rattle.exact.specs.Sign.{eqZ}
 use Rattle.alarm.specs.declared.Settings.{Settings}
 use Rattle.config.specs.declared.Config.{Config}
-use Rattle.config.specs.declared.Print.{Print}
-use Rattle.record.specs.Configuration.{configOf, digit, pointsIn, alarmsIn, settingsIn}
+use Rattle.register.specs.declared.Print.{Print}
+use Rattle.record.specs.Record.{wordCount}
+use Rattle.record.specs.Configuration.{inTurn, configOf, digit, pointsIn, alarmsIn, settingsIn}
 
 digit-yes : (b : Bool) → eqZ (digit b) (pos 1) ≡ b
 digit-yes true = refl
@@ -21,27 +22,26 @@ module _ (node ip tp rounding count factor base cut a b c d capture low high : �
   abbrev config : Config
   config =
       record {
-        node = node;
-        places = record { input = ip; total = tp };
         scale = record {
           step = rounding;
           count = count;
           inputs = x0 ∷ x1 ∷ x2 ∷ x3 ∷ x4 ∷ x5 ∷ x6 ∷ x7 ∷ x8 ∷ x9 ∷ x10 ∷ x11 ∷ x12 ∷ x13 ∷ x14 ∷ x15 ∷ [];
           displays = y0 ∷ y1 ∷ y2 ∷ y3 ∷ y4 ∷ y5 ∷ y6 ∷ y7 ∷ y8 ∷ y9 ∷ y10 ∷ y11 ∷ y12 ∷ y13 ∷ y14 ∷ y15 ∷ [];
         };
-        totalizer = record { batch = batch; «low_cut» = cut; factor = factor; «time_base» = base };
+        working = record {
+          totalizer = record { batch = batch; «low_cut» = cut; factor = factor; «time_base» = base };
+          capture = capture;
+          alarms = e ∷ f ∷ g ∷ h ∷ [];
+          analog = record { low = low; high = high };
+        };
+        talking = record { node = node; places = record { input = ip; total = tp }; abbreviated = abbreviated; print = print };
         setpoints = a ∷ b ∷ c ∷ d ∷ [];
-        alarms = e ∷ f ∷ g ∷ h ∷ [];
-        capture = capture;
-        analog = record { low = low; high = high };
-        abbreviated = abbreviated;
-        print = print;
       }
 
-  pub settings-73 : length (settingsIn config) ≡ 73
+  pub all-settings : length (settingsIn config) ≡ wordCount
   unfolding settingsIn pointsIn alarmsIn
-  settings-73 = refl
+  all-settings = refl
 
   pub made-again : configOf (settingsIn config) ≡ config
-  unfolding configOf settingsIn pointsIn alarmsIn
+  unfolding configOf inTurn settingsIn pointsIn alarmsIn
   made-again = simp digit-yes

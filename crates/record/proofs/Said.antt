@@ -7,15 +7,16 @@ use native.Mathlib.Omega.{arith}
 use lib.Dec.{eqb}
 use lib.IntN.{ℤ}
 use lib.ListN.{length, take, drop, getD}
-use borrow.Author.Tests.{eq-eqb, ne-eqb, eqb-true, le-leb, lt-leb}
+use borrow.Author.Tests.{eq-eqb, ne-eqb, eqb-true}
 use Rattle.exact.proofs.Z.{never, both, and-false}
 use Rattle.register.specs.Bytes.{ascii}
-use Rattle.text.specs.Line.{heard, before, after, has}
+use Rattle.text.specs.Line.{keptBytes, heard, before, after, has}
 use Rattle.text.specs.Number.{naturalOf, signedOf, numberOf}
 use Rattle.text.specs.declared.Natural.{Natural}
 use Rattle.text.specs.declared.Natural.the-variants as natural
 use Rattle.text.specs.declared.Number.{Number}
 use Rattle.text.specs.declared.Number.the-variants as number
+use Rattle.text.proofs.Lines.{heard-is, heard-long}
 use Rattle.record.specs.Record.{led, grown, words, same, sampleOf, keyOf, byteOf, placeOf, oneWord, twoWords, sampleSaid, keySaid, byteSaid, kinds, settingsOf, configurationSaid, shortSaid, shortBy, isCfg, saidBy, eventOf, readBy, readOf, stored, eventHeard, readHeard}
 use Rattle.record.specs.declared.Event.{Event}
 use Rattle.record.specs.declared.Event.the-variants.{Bad}
@@ -258,20 +259,14 @@ no-cfg (a ∷ b ∷ c ∷ d ∷ l) h = absurd (omega arith)
 
 -- ---- a line of an array and a count
 
-pub heard-long : (line : List ℕ) (len : ℕ) → 1024 < len → (Bad ≡ eventHeard (heard line len)) × ([] ≡ readHeard (heard line len))
-unfolding eventHeard readHeard heard
-heard-long line len h = rw (lt-leb len 1024 h) (refl, refl)
+pub too-long : (line : List ℕ) (len : ℕ) → keptBytes < len → (Bad ≡ eventHeard (heard line len)) × ([] ≡ readHeard (heard line len))
+unfolding eventHeard readHeard
+too-long line len h = rw (heard-long line len h) (refl, refl)
 
-pub heard-is : (line : List ℕ) (len : ℕ) → len ≤ 1024
+pub line-is : (line : List ℕ) (len : ℕ) → len ≤ keptBytes
     → (eventOf (take len line) ≡ eventHeard (heard line len)) × (readOf (take len line) ≡ readHeard (heard line len))
-unfolding eventHeard readHeard heard
-heard-is line len h = rw (le-leb len 1024 h) (refl, refl)
-
--- what `&l[0..n]` lends
-pub first : (n : ℕ) (l : List ℕ) → take (n - 0) (drop 0 l) ≡ take n l
-first n l =
-    let z : n - 0 ≡ n = omega arith in
-    ap (λ (k : ℕ). take k l) z
+unfolding eventHeard readHeard
+line-is line len h = rw (heard-is line len h) (refl, refl)
 
 -- where nothing is read, the array stays
 pub untouched : (old : List ℤ) {read : List ℤ} → [] ≡ read → old ≡ stored 0 old read

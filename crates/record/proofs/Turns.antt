@@ -16,7 +16,7 @@ use Rattle.text.specs.Line.{before, after, has}
 use Rattle.text.specs.Word.{wordEnd}
 use Rattle.text.specs.declared.Number.{Number}
 use Rattle.text.specs.declared.Number.the-variants as number
-use Rattle.record.specs.Record.{words, kinds, settingOf, onto, settingsOf, configurationSaid, stored}
+use Rattle.record.specs.Record.{wordCount, words, kinds, settingOf, onto, settingsOf, configurationSaid, stored}
 use Rattle.record.specs.declared.Event.{Event}
 use Rattle.record.specs.declared.Event.the-variants.{Configuration, Bad}
 use Rattle.record.proofs.Words.{words-one, words-on, words-some, before-all, behind, spaced, unspaced}
@@ -27,16 +27,16 @@ left i d = settingsOf (drop i kinds) (words d)
 
 -- what a line says of which i words are settings, and whose other words and settings are so many
 abbrev pub saysAt : ℕ → ℕ → ℕ → Event
-saysAt i n k = cond (eqb (i + n) 73 && eqb (i + k) 73) Configuration Bad
+saysAt i n k = cond (eqb (i + n) wordCount && eqb (i + k) wordCount) Configuration Bad
 
 pub begins : (s : List ℕ) → configurationSaid (words s) ≡ saysAt 0 (length (words s)) (length (left 0 s))
 unfolding configurationSaid
 begins s =
     let p : length (words s) ≡ 0 + length (words s) = omega arith in
     let q : length (left 0 s) ≡ 0 + length (left 0 s) = omega arith in
-    ap₂ (λ (n k : ℕ). cond (eqb n 73 && eqb k 73) Configuration Bad) p q
+    ap₂ (λ (n k : ℕ). cond (eqb n wordCount && eqb k wordCount) Configuration Bad) p q
 
-module _ (i : ℕ) (h : i < 73) where
+module _ (i : ℕ) (h : i < wordCount) where
   kind-next : drop i kinds ≡ getD kinds i false ∷ drop (i + 1) kinds
   unfolding kinds
   kind-next = rw (add-one i) (drop-cons kinds i false h)
@@ -45,10 +45,10 @@ module _ (i : ℕ) (h : i < 73) where
   says-on n k =
       let p : i + suc n ≡ i + 1 + n = omega arith in
       let q : i + suc k ≡ i + 1 + k = omega arith in
-      ap₂ (λ (n k : ℕ). cond (eqb n 73 && eqb k 73) Configuration Bad) p q
+      ap₂ (λ (n k : ℕ). cond (eqb n wordCount && eqb k wordCount) Configuration Bad) p q
 
   pub says-none : (n : ℕ) → Bad ≡ saysAt i n 0
-  says-none n = rw (ne-eqb (i + 0) 73 (λ e. omega arith), and-false (eqb (i + n) 73))
+  says-none n = rw (ne-eqb (i + 0) wordCount (λ e. omega arith), and-false (eqb (i + n) wordCount))
 
   module _ (d : List ℕ) (x : Number) (e : settingOf (getD kinds i false) (before 32 d) ≡ x) where
     left-next : has 32 d ≡ true → left i d ≡ onto x (left (i + 1) (after 32 d))
@@ -76,17 +76,17 @@ pub starts : (s : List ℕ) (old : List ℤ) → Reading s old old 0 0
 starts s old = record { says = begins s; holds = refl }
 
 module _ (s : List ℕ) (old array : List ℤ) (at i : ℕ) (r : Reading s old array at i) where
-  pub all-read : i ≡ 73 → Left s old Bad array
+  pub all-read : i ≡ wordCount → Left s old Bad array
   unfolding kinds settingsOf stored
   all-read e =
       let d = drop at s in
       let n : left i d ≡ [] = ap (λ (k : ℕ). left k d) e in
-      let more : (i + length (words d) ≡ 73 → ⊥) = λ f. omega (arith, words-some d) in (
-        sym (r .says ∙ rw (ne-eqb (i + length (words d)) 73 more)),
+      let more : (i + length (words d) ≡ wordCount → ⊥) = λ f. omega (arith, words-some d) in (
+        sym (r .says ∙ rw (ne-eqb (i + length (words d)) wordCount more)),
         sym (r .holds ∙ ap (stored i array) n),
       )
 
-  module _ (h : i < 73) (e : ℕ) (w : e ≡ wordEnd at s) where
+  module _ (h : i < wordCount) (e : ℕ) (w : e ≡ wordEnd at s) where
     abbrev word : Number
     word = settingOf (getD kinds i false) (before 32 (drop at s))
 
@@ -106,13 +106,13 @@ module _ (s : List ℕ) (old array : List ℤ) (at i : ℕ) (r : Reading s old a
         )
 
     module _ (v : ℤ) (x : word ≡ number.Is v) where
-      pub last-setting : length s ≤ e → at ≤ length s → Left s old (cond (eqb (i + 1) 73) Configuration Bad) (set array i v)
+      pub last-setting : length s ≤ e → at ≤ length s → Left s old (cond (eqb (i + 1) wordCount) Configuration Bad) (set array i v)
       unfolding stored
       last-setting k b =
           let y = unspaced s at e w k b in
           let n = left-last i h (drop at s) (number.Is v) x y in
           let o = words-one (drop at s) y in (
-            sym (r .says ∙ rw (n, o) (once (eqb (i + 1) 73))),
+            sym (r .says ∙ rw (n, o) (once (eqb (i + 1) wordCount))),
             sym (r .holds ∙ ap (stored i array) n),
           )
         where

@@ -1,5 +1,5 @@
--- The configuration that 73 settings make, in the order of their words.
-use Prim.Native.Nat.{ℕ, _+_}
+-- The configuration that the settings of a line make, in the order of their words.
+use Prim.Native.Nat.{ℕ, zero, suc, _+_}
 use mathlib.Core.Bool.{Bool, cond}
 use mathlib.Core.List.{List, [], _∷_, _++_}
 use lib.ListN.{getD}
@@ -9,7 +9,9 @@ use Rattle.alarm.specs.declared.Settings.{Settings}
 use Rattle.total.specs.declared.Totalizer.{Totalizer}
 use Rattle.config.specs.declared.Config.{Config}
 use Rattle.config.specs.declared.Scale.{Scale}
-use Rattle.config.specs.declared.Print.{Print}
+use Rattle.config.specs.declared.Talking.{Talking}
+use Rattle.config.specs.declared.Working.{Working}
+use Rattle.register.specs.declared.Print.{Print}
 
 -- ---- from settings to a configuration
 
@@ -20,16 +22,14 @@ number s i = getD s i (pos 0)
 abbrev pub yes : List ℤ → ℕ → Bool
 yes s i = eqZ (number s i) (pos 1)
 
--- every second of 32 settings
-abbrev pub inTurn : List ℤ → ℕ → List ℤ
-inTurn s i =
-    number s i ∷ number s (i + 2) ∷ number s (i + 4) ∷ number s (i + 6) ∷ number s (i + 8) ∷ number s (i + 10) ∷ number s (i + 12)
-    ∷ number s (i + 14) ∷ number s (i + 16) ∷ number s (i + 18) ∷ number s (i + 20) ∷ number s (i + 22) ∷ number s (i + 24)
-    ∷ number s (i + 26) ∷ number s (i + 28) ∷ number s (i + 30) ∷ []
+-- every second setting from a place on, so many of them
+unfoldable pub inTurn : ℕ → List ℤ → ℕ → List ℤ
+inTurn zero s i = []
+inTurn (suc n) s i = number s i ∷ inTurn n s (i + 2)
 
 -- rounding and number of points, then x0 y0 .. x15 y15
 abbrev pub scaleOf : List ℤ → Scale
-scaleOf s = record { step = number s 3; count = number s 4; inputs = inTurn s 5; displays = inTurn s 6 }
+scaleOf s = record { step = number s 3; count = number s 4; inputs = inTurn 16 s 5; displays = inTurn 16 s 6 }
 
 -- factor, base, low cut; batch stands among the last six
 abbrev pub totalizerOf : List ℤ → Totalizer
@@ -46,22 +46,31 @@ alarmOf s i =
       latched = yes s (i + 5);
     }
 
+-- capture and analog stand behind the four alarms
+abbrev pub workingOf : List ℤ → Working
+workingOf s =
+    record {
+      totalizer = totalizerOf s;
+      capture = number s 64;
+      alarms = alarmOf s 40 ∷ alarmOf s 46 ∷ alarmOf s 52 ∷ alarmOf s 58 ∷ [];
+      analog = record { low = number s 65; high = number s 66 };
+    }
+
 abbrev pub printOf : List ℤ → Print
 printOf s = record { input = yes s 69; extremes = yes s 70; total = yes s 71; setpoints = yes s 72 }
+
+-- node and places stand first, the rest last
+abbrev pub talkingOf : List ℤ → Talking
+talkingOf s =
+    record { node = number s 0; places = record { input = number s 1; total = number s 2 }; abbreviated = yes s 68; print = printOf s }
 
 unfoldable pub configOf : List ℤ → Config
 configOf s =
     record {
-      node = number s 0;
-      places = record { input = number s 1; total = number s 2 };
       scale = scaleOf s;
-      totalizer = totalizerOf s;
+      working = workingOf s;
+      talking = talkingOf s;
       setpoints = number s 40 ∷ number s 46 ∷ number s 52 ∷ number s 58 ∷ [];
-      alarms = alarmOf s 40 ∷ alarmOf s 46 ∷ alarmOf s 52 ∷ alarmOf s 58 ∷ [];
-      capture = number s 64;
-      analog = record { low = number s 65; high = number s 66 };
-      abbreviated = yes s 68;
-      print = printOf s;
     }
 
 -- ---- and back: the settings of a configuration, one after another as they are written
@@ -87,9 +96,9 @@ printIn p = digit (p .input) ∷ digit (p .extremes) ∷ digit (p .total) ∷ di
 
 unfoldable pub settingsIn : Config → List ℤ
 settingsIn c =
-    (c .node ∷ c .places .input ∷ c .places .total ∷ c .scale .step ∷ c .scale .count ∷ [])
+    (c .talking .node ∷ c .talking .places .input ∷ c .talking .places .total ∷ c .scale .step ∷ c .scale .count ∷ [])
     ++ (pointsIn (c .scale .inputs) (c .scale .displays)
-    ++ ((c .totalizer .factor ∷ c .totalizer .«time_base» ∷ c .totalizer .«low_cut» ∷ [])
-    ++ (alarmsIn (c .setpoints) (c .alarms)
-    ++ ((c .capture ∷ c .analog .low ∷ c .analog .high ∷ digit (c .totalizer .batch) ∷ digit (c .abbreviated) ∷ [])
-    ++ printIn (c .print)))))
+    ++ ((c .working .totalizer .factor ∷ c .working .totalizer .«time_base» ∷ c .working .totalizer .«low_cut» ∷ [])
+    ++ (alarmsIn (c .setpoints) (c .working .alarms)
+    ++ ((c .working .capture ∷ c .working .analog .low ∷ c .working .analog .high ∷ digit (c .working .totalizer .batch) ∷ digit (c .talking .abbreviated) ∷ [])
+    ++ printIn (c .talking .print)))))

@@ -105,11 +105,15 @@ byteSaid ws = twoWords (λ (b place : List ℕ). byteOf (naturalOf 3 b) (placeOf
 
 -- ---- CFG
 
+-- how many words a configuration has
+abbrev pub wordCount : ℕ
+wordCount = 73
+
 -- an alarm's six words: setpoint, hysteresis, on, off are numbers, low and latched a yes or no
 abbrev pub alarmKinds : List Bool
 alarmKinds = false ∷ false ∷ false ∷ false ∷ true ∷ true ∷ []
 
--- which of the 73 words are a yes or no: node, places, rounding, points, factor, base and low cut are none; four alarms; capture and
+-- which of them are a yes or no: node, places, rounding, points, factor, base and low cut are none; four alarms; capture and
 -- analog are none; batch, abbreviated and the four of a print are
 unfoldable pub kinds : List Bool
 kinds =
@@ -135,9 +139,9 @@ settingsOf [] ws = []
 settingsOf (k ∷ ks) [] = []
 settingsOf (k ∷ ks) (w ∷ ws) = onto (settingOf k w) (settingsOf ks ws)
 
--- 73 words, each of them a setting
+-- as many words, each of them a setting
 unfoldable pub configurationSaid : List (List ℕ) → Event
-configurationSaid ws = cond (eqb (length ws) 73 && eqb (length (settingsOf kinds ws)) 73) Configuration Bad
+configurationSaid ws = cond (eqb (length ws) wordCount && eqb (length (settingsOf kinds ws)) wordCount) Configuration Bad
 
 -- ---- a line
 

@@ -1,6 +1,6 @@
 // What a line of a recorded history says.
 //
-//   CFG ..          a configuration: 73 words, in the order of `setting` and `config_of`
+//   CFG ..          a configuration: `WORDS` words, in the order that `config_of` says
 //   S n             a sample
 //   K n place       a key
 //   B byte place    a received byte
@@ -13,22 +13,28 @@
 ghost use mathlib.Core.Path.{_≡_};
 ghost use mathlib.Core.Bool.{false, cond};
 ghost use mathlib.Core.List.{[], _∷_};
-ghost use Prim.Native.Nat.{_≤_, _<_};
+ghost use Prim.Native.Nat.{_+_, _≤_, _<_};
 ghost use lib.Dec.{eqb};
 ghost use lib.ListN.{length, getD};
 ghost use Rattle.text.specs.Line.{heard};
-ghost use Rattle.record.specs.Record.{words, keyOf, byteOf, placeOf, sampleSaid, keySaid, byteSaid, asNumber, settingOf, kinds, settingsOf, configurationSaid, shortSaid, shortBy, eventOf, readOf, stored, eventHeard, readHeard};
-ghost use Rattle.record.specs.Configuration.{inTurn, scaleOf, totalizerOf, alarmOf, printOf, configOf};
+ghost use Rattle.record.specs.Record.{wordCount, words, keyOf, byteOf, placeOf, sampleSaid, keySaid, byteSaid, asNumber, settingOf, kinds, settingsOf, configurationSaid, shortSaid, shortBy, eventOf, readOf, stored, eventHeard, readHeard};
+ghost use Rattle.record.specs.Configuration.{inTurn, scaleOf, totalizerOf, alarmOf, workingOf, printOf, talkingOf, configOf};
 use alarm::Settings;
 use config::Analog;
 use config::Config;
 use config::Places;
-use config::Print;
 use config::Scale;
+use config::Talking;
+use config::Working;
+use register::Print;
 use text::Flag;
+use text::KEPT;
 use text::Natural;
 use text::Number;
 use total::Totalizer;
+
+// How many words a configuration has.
+pub const WORDS: usize = 73;
 
 // A configuration's words are in the array that `parse` is lent.
 pub enum Event {
@@ -108,7 +114,7 @@ fn byte(s: &[u8]) -> Event
 
 // Whether word i of a configuration is a yes/no: the last two of each alarm's six, and the last six of all.
 fn is_flag(i: usize) -> bool
-    requires { ⌜ i < 73 ⌝ }
+    requires { ⌜ i < wordCount ⌝ }
     ensures { λ r. ⌜ r ≡ getD kinds i false ⌝ }
 {
     if i < 40 {
@@ -131,7 +137,7 @@ fn as_number(f: Flag) -> Number
 
 // Word i of a configuration.
 fn setting(i: usize, s: &[u8]) -> Number
-    requires { ⌜ i < 73 ⌝ }
+    requires { ⌜ i < wordCount ⌝ }
     ensures { λ r. ⌜ r ≡ settingOf (getD kinds i false) (now (s .entry)) ⌝ }
 {
     if is_flag(i) {
@@ -141,13 +147,13 @@ fn setting(i: usize, s: &[u8]) -> Number
 }
 
 // The words of a configuration, as many as there are places for them.
-fn configuration(s: &[u8], settings: &mut [i32; 73]) -> Event
+fn configuration(s: &[u8], settings: &mut [i32; WORDS]) -> Event
     ensures { λ r. ⌜ r ≡ configurationSaid (words (now (s .entry))) ⌝ }
     ensures { λ _. ⌜ now (settings .exit) ≡ stored 0 (now (settings .entry)) (settingsOf kinds (words (now (s .entry)))) ⌝ }
 {
     let mut at = 0;
     let mut i = 0;
-    while i < 73 {
+    while i < WORDS {
         let e = text::word_end(s, at);
         let n = setting(i, &s[at..e]);
         let Number::Is(v) = n else {
@@ -165,9 +171,9 @@ fn configuration(s: &[u8], settings: &mut [i32; 73]) -> Event
 
 // A line that ends after so many words.
 fn ended(count: usize) -> Event
-    ensures { λ r. ⌜ r ≡ cond (eqb count 73) Event.Configuration Event.Bad ⌝ }
+    ensures { λ r. ⌜ r ≡ cond (eqb count wordCount) Event.Configuration Event.Bad ⌝ }
 {
-    if count == 73 {
+    if count == WORDS {
         Event::Configuration
     } else {
         Event::Bad
@@ -187,7 +193,7 @@ fn short(k: u8, s: &[u8]) -> Event
 }
 
 // A line, as its bytes without the LF.
-fn parse(s: &[u8], settings: &mut [i32; 73]) -> Event
+fn parse(s: &[u8], settings: &mut [i32; WORDS]) -> Event
     ensures { λ r. ⌜ r ≡ eventOf (now (s .entry)) ⌝ }
     ensures { λ _. ⌜ now (settings .exit) ≡ stored 0 (now (settings .entry)) (readOf (now (s .entry))) ⌝ }
 {
@@ -214,7 +220,7 @@ fn brief(s: &[u8]) -> Event
 }
 
 // The line of an array and a count.
-pub fn judge(line: &[u8; 1024], len: usize, settings: &mut [i32; 73]) -> Event
+pub fn judge(line: &[u8; KEPT], len: usize, settings: &mut [i32; WORDS]) -> Event
     ensures { λ r. ⌜ r ≡ eventHeard (heard (now (line .entry)) len) ⌝ }
     ensures { λ _. ⌜ now (settings .exit) ≡ stored 0 (now (settings .entry)) (readHeard (heard (now (line .entry)) len)) ⌝ }
 {
@@ -225,56 +231,23 @@ pub fn judge(line: &[u8; 1024], len: usize, settings: &mut [i32; 73]) -> Event
     parse(&s[0..len], settings)
 }
 
-// The inputs of the 16 points, and their displays, one after the other in turn.
-fn inputs_of(s: &[i32; 73]) -> [i32; 16]
-    ensures { λ r. ⌜ r ≡ inTurn (now (s .entry)) 5 ⌝ }
+// Every second word from a place on, for the 16 points: their inputs and their displays stand in turn.
+fn in_turn(s: &[i32; WORDS], at: usize) -> [i32; 16]
+    requires { ⌜ at + 31 ≤ wordCount ⌝ }
+    ensures { λ r. ⌜ r ≡ inTurn 16 (now (s .entry)) at ⌝ }
 {
-    [
-        s[5],
-        s[7],
-        s[9],
-        s[11],
-        s[13],
-        s[15],
-        s[17],
-        s[19],
-        s[21],
-        s[23],
-        s[25],
-        s[27],
-        s[29],
-        s[31],
-        s[33],
-        s[35],
-    ]
-}
-
-fn displays_of(s: &[i32; 73]) -> [i32; 16]
-    ensures { λ r. ⌜ r ≡ inTurn (now (s .entry)) 6 ⌝ }
-{
-    [
-        s[6],
-        s[8],
-        s[10],
-        s[12],
-        s[14],
-        s[16],
-        s[18],
-        s[20],
-        s[22],
-        s[24],
-        s[26],
-        s[28],
-        s[30],
-        s[32],
-        s[34],
-        s[36],
-    ]
+    let mut points = [0; 16];
+    let mut i = 0;
+    while i < 16 {
+        points[i] = s[at + 2 * i];
+        i += 1;
+    }
+    points
 }
 
 // An alarm's six words from a place on: setpoint, hysteresis, on and off delay, low acting, latched.
-fn alarm_at(s: &[i32; 73], at: usize) -> Settings
-    requires { ⌜ at ≤ 58 ⌝ }
+fn alarm_at(s: &[i32; WORDS], at: usize) -> Settings
+    requires { ⌜ at + 6 ≤ wordCount ⌝ }
     ensures { λ r. ⌜ r ≡ alarmOf (now (s .entry)) at ⌝ }
 {
     Settings {
@@ -286,11 +259,11 @@ fn alarm_at(s: &[i32; 73], at: usize) -> Settings
     }
 }
 
-fn scale_of(s: &[i32; 73]) -> Scale
+fn scale_of(s: &[i32; WORDS]) -> Scale
     ensures { λ r. ⌜ r ≡ scaleOf (now (s .entry)) ⌝ }
 {
-    let inputs = inputs_of(s);
-    let displays = displays_of(s);
+    let inputs = in_turn(s, 5);
+    let displays = in_turn(s, 6);
     Scale {
         step: s[3],
         count: s[4],
@@ -299,7 +272,7 @@ fn scale_of(s: &[i32; 73]) -> Scale
     }
 }
 
-fn totalizer_of(s: &[i32; 73]) -> Totalizer
+fn totalizer_of(s: &[i32; WORDS]) -> Totalizer
     ensures { λ r. ⌜ r ≡ totalizerOf (now (s .entry)) ⌝ }
 {
     Totalizer {
@@ -310,7 +283,26 @@ fn totalizer_of(s: &[i32; 73]) -> Totalizer
     }
 }
 
-fn print_of(s: &[i32; 73]) -> Print
+fn working_of(s: &[i32; WORDS]) -> Working
+    ensures { λ r. ⌜ r ≡ workingOf (now (s .entry)) ⌝ }
+{
+    let totalizer = totalizer_of(s);
+    let first = alarm_at(s, 40);
+    let second = alarm_at(s, 46);
+    let third = alarm_at(s, 52);
+    let fourth = alarm_at(s, 58);
+    Working {
+        totalizer,
+        capture: s[64],
+        alarms: [first, second, third, fourth],
+        analog: Analog {
+            low: s[65],
+            high: s[66],
+        },
+    }
+}
+
+fn print_of(s: &[i32; WORDS]) -> Print
     ensures { λ r. ⌜ r ≡ printOf (now (s .entry)) ⌝ }
 {
     Print {
@@ -321,41 +313,40 @@ fn print_of(s: &[i32; 73]) -> Print
     }
 }
 
-// An array by value tells how many it holds.
-fn sized(s: [i32; 73])
-    ensures { λ _. ⌜ length s ≡ 73 ⌝ }
-{}
-
-// The configuration of its 73 words: node, places of input and total, rounding, number of points, 16 points, factor, time base, low
-// cut, four alarms, capture, analog low and high, batch, abbreviated, and what a block prints.
-pub fn config_of(s: &[i32; 73]) -> Config
-    ensures { λ r. ⌜ r ≡ configOf (now (s .entry)) ⌝ }
-    ensures { λ _. ⌜ length (now (s .entry)) ≡ 73 ⌝ }
+fn talking_of(s: &[i32; WORDS]) -> Talking
+    ensures { λ r. ⌜ r ≡ talkingOf (now (s .entry)) ⌝ }
 {
-    sized(*s);
-    let scale = scale_of(s);
-    let totalizer = totalizer_of(s);
-    let first = alarm_at(s, 40);
-    let second = alarm_at(s, 46);
-    let third = alarm_at(s, 52);
-    let fourth = alarm_at(s, 58);
     let print = print_of(s);
-    Config {
+    Talking {
         node: s[0],
         places: Places {
             input: s[1],
             total: s[2],
         },
-        scale,
-        totalizer,
-        setpoints: [s[40], s[46], s[52], s[58]],
-        alarms: [first, second, third, fourth],
-        capture: s[64],
-        analog: Analog {
-            low: s[65],
-            high: s[66],
-        },
         abbreviated: s[68] == 1,
         print,
+    }
+}
+
+// An array by value tells how many it holds.
+fn sized(s: [i32; WORDS])
+    ensures { λ _. ⌜ length s ≡ wordCount ⌝ }
+{}
+
+// The configuration of its words: node, places of input and total, rounding, number of points, 16 points, factor, time base, low cut,
+// four alarms, capture, analog low and high, batch, abbreviated, and what a block prints.
+pub fn config_of(s: &[i32; WORDS]) -> Config
+    ensures { λ r. ⌜ r ≡ configOf (now (s .entry)) ⌝ }
+    ensures { λ _. ⌜ length (now (s .entry)) ≡ wordCount ⌝ }
+{
+    sized(*s);
+    let scale = scale_of(s);
+    let working = working_of(s);
+    let talking = talking_of(s);
+    Config {
+        scale,
+        working,
+        talking,
+        setpoints: [s[40], s[46], s[52], s[58]],
     }
 }

@@ -8,13 +8,13 @@ use native.Mathlib.Numerals.{add-one}
 use lib.Dec.{leb, ltb, eqb}
 use lib.IntN.{pos, negℤ, _-ℤ_, +ℤ-idl}
 use lib.ListN.{length, take, drop, getD, length-drop}
-use lib.Seq.{drop-cons, drop-length, take-all}
+use lib.Seq.{drop-cons, drop-length, take-all, take-nil}
 use borrow.Author.Tests.{le-leb, lt-leb, eq-eqb, ne-eqb, ltb-true, ltb-false}
 use mir.Syntax.{Width, w64}
 use mir.Val.{SFits, hbits, toZ}
 use mir.Facts.{toZ-pos}
 use Rattle.exact.proofs.Z.{never}
-use Rattle.text.specs.Line.{scan, keptIn, keptLen, before}
+use Rattle.text.specs.Line.{Used, scan, keptIn, keptLen, before}
 use Rattle.text.specs.Number.{isDigit, digits, value, naturalOf, signed, most, signedOf, numberOf}
 use Rattle.text.specs.Word.{wordEnd}
 use Rattle.text.specs.declared.Natural.{Natural}
@@ -44,8 +44,22 @@ inside n lo hi e = go (ltb n lo) (ltb hi n) refl refl e
 pub rest : (n : ℕ) (l : List ℕ) → take (length l - n) (drop n l) ≡ drop n l
 rest n l = take-all (length l - n) (drop n l) (omega (arith, length-drop n l))
 
-pub length-rest : (n : ℕ) (l : List ℕ) → length (take (length l - n) (drop n l)) ≡ length l - n
-length-rest n l = ap length (rest n l) ∙ length-drop n l
+-- a step in what is left of a block goes on in the block
+pub ahead : {used : ℕ} (l : List ℕ) (n : ℕ) → Used used (length (take (length l - n) (drop n l))) → Used used (length l - n)
+ahead l n u = rw (rest n l, length-drop n l) at u
+
+-- what `&l[m..n]` lends
+pub part : (m n : ℕ) (l : List ℕ) → take (n - m) (drop m l) ≡ drop m (take n l)
+part zero n l =
+    let z : n - 0 ≡ n = omega arith in
+    ap (λ (k : ℕ). take k l) z
+part (suc m) zero l =
+    let z : 0 - suc m ≡ 0 = omega arith in
+    ap (λ (k : ℕ). take k (drop (suc m) l)) z
+part (suc m) (suc n) [] = take-nil (suc n - suc m)
+part (suc m) (suc n) (b ∷ l) =
+    let z : suc n - suc m ≡ n - m = omega arith in
+    ap (λ (k : ℕ). take k (drop m l)) z ∙ part m n l
 
 -- ---- scan
 

@@ -10,61 +10,61 @@ use lib.ListN.{length, take, drop, set, length-append, length-set}
 use lib.Seq.{length-take-le, take-suc-set, drop-at, append-snoc}
 use borrow.Author.Tests.{lt-ltb, le-ltb, le-leb, lt-leb, leb-true, leb-false, ltb-true, ltb-false}
 use Rattle.exact.proofs.Z.{never}
-use Rattle.text.specs.Line.{Scanned, scan, keptIn, keptLen, Heard, bytes, long, heard, kept, before, after, has, Feeds, Cut, cutAt, cut}
+use Rattle.text.specs.Line.{keptBytes, Scanned, scan, keptIn, keptLen, Heard, bytes, long, heard, kept, before, after, has, Feeds, Cut, cutAt, cut}
 
 -- ---- one byte more
 
 unfoldable push : Heard → ℕ → Heard
-push (bytes l) b = cond (ltb (length l) 1024) (bytes (l ++ (b ∷ []))) long
+push (bytes l) b = cond (ltb (length l) keptBytes) (bytes (l ++ (b ∷ []))) long
 push long b = long
 
 push-kept : (l : List ℕ) (b : ℕ) → push (kept l) b ≡ kept (l ++ (b ∷ []))
 unfolding push kept
-push-kept l b = go (leb (length l) 1024) refl
+push-kept l b = go (leb (length l) keptBytes) refl
   where
     one : length (l ++ (b ∷ [])) ≡ suc (length l)
     one = length-append l (b ∷ []) ∙ add-one (length l)
 
-    go : (t : Bool) → leb (length l) 1024 ≡ t
-        → push (cond t (bytes l) long) b ≡ cond (leb (length (l ++ (b ∷ []))) 1024) (bytes (l ++ (b ∷ []))) long
+    go : (t : Bool) → leb (length l) keptBytes ≡ t
+        → push (cond t (bytes l) long) b ≡ cond (leb (length (l ++ (b ∷ []))) keptBytes) (bytes (l ++ (b ∷ []))) long
     go true p = rw one
-    go false p = let h = leb-false (length l) 1024 p in rw (one, lt-leb (suc (length l)) 1024 (omega arith))
+    go false p = let h = leb-false (length l) keptBytes p in rw (one, lt-leb (suc (length l)) keptBytes (omega arith))
 
-heard-room : (line : List ℕ) (len b : ℕ) → length line ≡ 1024 → len < 1024
-    → cond (leb (len + 1) 1024) (bytes (take (len + 1) (set line len b))) long ≡ push (cond (leb len 1024) (bytes (take len line)) long) b
+heard-room : (line : List ℕ) (len b : ℕ) → length line ≡ keptBytes → len < keptBytes
+    → cond (leb (len + 1) keptBytes) (bytes (take (len + 1) (set line len b))) long ≡ push (cond (leb len keptBytes) (bytes (take len line)) long) b
 unfolding push
 heard-room line len b e h =
     let i : len < length line = omega arith in
     let k : length (take len line) ≡ len = length-take-le _ _ (omega arith) in
-    simp (le-leb len 1024 (omega arith), k, lt-ltb len 1024 h, add-one, take-suc-set line len b i)
+    simp (le-leb len keptBytes (omega arith), k, lt-ltb len keptBytes h, add-one, take-suc-set line len b i)
 
-heard-full : (line : List ℕ) (len b : ℕ) → length line ≡ 1024 → 1024 ≤ len → (t : Bool) → leb len 1024 ≡ t
+heard-full : (line : List ℕ) (len b : ℕ) → length line ≡ keptBytes → keptBytes ≤ len → (t : Bool) → leb len keptBytes ≡ t
     → long ≡ push (cond t (bytes (take len line)) long) b
 unfolding push
 heard-full line len b e h true p =
-    let i : len ≤ 1024 = leb-true _ _ p in
+    let i : len ≤ keptBytes = leb-true _ _ p in
     let k : length (take len line) ≡ len = length-take-le _ _ (omega arith) in
-    simp (k, le-ltb len 1024 h)
+    simp (k, le-ltb len keptBytes h)
 heard-full line len b e h false p = refl
 
-push-heard : (line : List ℕ) (len b : ℕ) → length line ≡ 1024 → heard (keptIn line len b) (keptLen len) ≡ push (heard line len) b
+push-heard : (line : List ℕ) (len b : ℕ) → length line ≡ keptBytes → heard (keptIn line len b) (keptLen len) ≡ push (heard line len) b
 unfolding heard keptIn keptLen
-push-heard line len b e = go (ltb len 1024) refl
+push-heard line len b e = go (ltb len keptBytes) refl
   where
-    go : (t : Bool) → ltb len 1024 ≡ t
-        → cond (leb (cond t (len + 1) 1025) 1024) (bytes (take (cond t (len + 1) 1025) (cond t (set line len b) line))) long
-        ≡ push (cond (leb len 1024) (bytes (take len line)) long) b
-    go true p = heard-room line len b e (ltb-true len 1024 p)
-    go false p = heard-full line len b e (ltb-false len 1024 p) (leb len 1024) refl
+    go : (t : Bool) → ltb len keptBytes ≡ t
+        → cond (leb (cond t (len + 1) (keptBytes + 1)) keptBytes) (bytes (take (cond t (len + 1) (keptBytes + 1)) (cond t (set line len b) line))) long
+        ≡ push (cond (leb len keptBytes) (bytes (take len line)) long) b
+    go true p = heard-room line len b e (ltb-true len keptBytes p)
+    go false p = heard-full line len b e (ltb-false len keptBytes p) (leb len keptBytes) refl
 
 -- an array and a count that stand for l stand for l and b after it
-keeps : (line : List ℕ) (len b : ℕ) (l : List ℕ) → length line ≡ 1024 → heard line len ≡ kept l
+keeps : (line : List ℕ) (len b : ℕ) (l : List ℕ) → length line ≡ keptBytes → heard line len ≡ kept l
     → heard (keptIn line len b) (keptLen len) ≡ kept (l ++ (b ∷ []))
 keeps line len b l e h = push-heard line len b e ∙ ap (λ (x : Heard). push x b) h ∙ push-kept l b
 
 kept-size : (line : List ℕ) (len b : ℕ) → length (keptIn line len b) ≡ length line
 unfolding keptIn
-kept-size line len b = go (ltb len 1024)
+kept-size line len b = go (ltb len keptBytes)
   where
     go : (t : Bool) → length (cond t (set line len b) line) ≡ length line
     go true = length-set line len b
@@ -77,12 +77,12 @@ record Fed (i : ℕ) (s l head tail : List ℕ) (ended : Bool) (r : Scanned) : T
   line : heard (r .line) (r .step .len) ≡ kept (l ++ head)
   ends : r .step .ended ≡ ended
   rest : (p : List ℕ) → length p ≡ i → drop (r .step .used) (p ++ s) ≡ tail
-  size : length (r .line) ≡ 1024
+  size : length (r .line) ≡ keptBytes
 
 snoc-length : (p : List ℕ) (b i : ℕ) → length p ≡ i → length (p ++ (b ∷ [])) ≡ i + 1
 snoc-length p b i k = length-append p (b ∷ []) ∙ ap (λ (n : ℕ). n + 1) k
 
-scan-feeds : (i : ℕ) (s line : List ℕ) (len : ℕ) (l : List ℕ) → length line ≡ 1024 → heard line len ≡ kept l
+scan-feeds : (i : ℕ) (s line : List ℕ) (len : ℕ) (l : List ℕ) → length line ≡ keptBytes → heard line len ≡ kept l
     → Fed i s l (before 10 s) (after 10 s) (has 10 s) (scan i s line len)
 unfolding scan before after has
 scan-feeds i [] line len l e h = record { line = rw (append-nil l) h; ends = refl; rest = λ p k. drop-at p [] i k; size = e }
@@ -107,10 +107,19 @@ scan-feeds i (b ∷ s) line len l e h =
           size = next .size;
         }
 
-pub feeds : (s line : List ℕ) (len : ℕ) (l : List ℕ) → length line ≡ 1024 → heard line len ≡ kept l → Feeds s l (scan 0 s line len)
+pub feeds : (s line : List ℕ) (len : ℕ) (l : List ℕ) → length line ≡ keptBytes → heard line len ≡ kept l → Feeds s l (scan 0 s line len)
 feeds s line len l e h =
     let f = scan-feeds 0 s line len l e h in
     record { line = f .line; ends = f .ends; rest = f .rest [] refl; size = f .size }
+
+-- the line of an array and a count that is not too long, and of one that is
+pub heard-is : (line : List ℕ) (len : ℕ) → len ≤ keptBytes → heard line len ≡ bytes (take len line)
+unfolding heard
+heard-is line len h = rw (le-leb len keptBytes h)
+
+pub heard-long : (line : List ℕ) (len : ℕ) → keptBytes < len → heard line len ≡ long
+unfolding heard
+heard-long line len h = rw (lt-leb len keptBytes h)
 
 -- an array with a count of 0 is a line of which nothing was read
 pub empty-kept : (line : List ℕ) → heard line 0 ≡ kept []

@@ -7,8 +7,9 @@ use Prim.Native.Nat.{ℕ, _+_, _-_}
 use lib.Dec.{eqb}
 use lib.ListN.{length, take, drop}
 use lib.Seq.{drop-length, drop-drop}
+use borrow.Author.Tests.{eq-eqb, ne-eqb}
 use Rattle.exact.proofs.Z.{never}
-use Rattle.text.specs.Line.{Scanned, scan, Heard, heard, kept, before, after, has, Feeds, Cut, cut, lines, Stands, ran, Ran}
+use Rattle.text.specs.Line.{Scanned, scan, Heard, heard, kept, before, after, has, Feeds, Cut, cut, lines, countAfter, Stands, ran, Carried, stepped, finished}
 use Rattle.text.specs.declared.Step.{Step}
 use Rattle.text.proofs.Laws.{rest}
 use Rattle.text.proofs.Lines.{feeds, empty-kept, cut-ended, cut-open, cut-blocks, cut-behind}
@@ -41,14 +42,19 @@ module _ {A : Type 0} (event : A → Heard → A) where
     pub stands : Stands since line len
     pub state : a ≡ ran event a₀ done
 
-  pub begins : (block l : List ℕ) (a : A) (line : List ℕ) (len : ℕ) → Stands l line len → Reached block l a a line len 0
-  unfolding ran
-  begins block l a line len h = record { done = []; since = l; cuts = refl; stands = h; state = refl }
+  -- the same after whatever bytes the array and its count stood for before the block
+  abbrev pub Reaches : (block line₀ : List ℕ) (len₀ : ℕ) (a₀ a : A) (line : List ℕ) (len at : ℕ) → Type 0
+  Reaches block line₀ len₀ a₀ a line len at = (l : List ℕ) → Stands l line₀ len₀ → Reached block l a₀ a line len at
 
-  pub ends : (block l : List ℕ) (a₀ a : A) (line : List ℕ) (len at : ℕ) → at ≡ length block
-      → Reached block l a₀ a line len at → Ran event block l a₀ a line len
+  pub begins : (block line : List ℕ) (len : ℕ) (a : A) → Reaches block line len a a line len 0
+  unfolding ran
+  begins block line len a l h = record { done = []; since = l; cuts = refl; stands = h; state = refl }
+
+  pub ends : {block line₀ : List ℕ} {len₀ : ℕ} {a₀ a : A} {line : List ℕ} {len at : ℕ} → at ≡ length block
+      → Reaches block line₀ len₀ a₀ a line len at → Carried event block line₀ len₀ a₀ a line len
   unfolding cut
-  ends block l a₀ a line len at e r =
+  ends {block} {line₀} {len₀} {a₀} e reached l h =
+      let r = reached l h in
       let c : lines l block ≡ record { done = r .done; since = r .since } =
       r .cuts ∙ ap (λ (s : List ℕ). cut 10 (record { done = r .done; since = r .since }) s) (ap (λ (k : ℕ). drop k block) e ∙ drop-length block) in
       record {
@@ -81,31 +87,50 @@ module _ {A : Type 0} (event : A → Heard → A) where
           state = r .state;
         }
 
-    -- one turn: a line is fed, and where it ended there is an event
-    pub steps : (f : Step) (line' : List ℕ) (a' : A) (len' : ℕ)
-        → f ≡ scan 0 (take (length block - at) (drop at block)) line len .step
-        → line' ≡ scan 0 (take (length block - at) (drop at block)) line len .line
-        → len' ≡ cond (f .ended) 0 (f .len)
-        → a' ≡ cond (f .ended) (event a (heard line' (f .len))) a
-        → Reached block l a₀ a' line' len' (at + f .used)
-    steps f line' a' len' p q u v =
-        let e = rest at block in
-        let x = scan 0 (drop at block) line len in
-        let g = feeds (drop at block) line len (r .since) (r .stands .size) (r .stands .keeps) in
-        rw (u, v, p, q, e) (step-on x g (x .step .ended) (sym (g .ends)))
+  -- one turn: a line is fed, and where it ended there is an event
+  pub turns : {block line₀ : List ℕ} {len₀ : ℕ} {a₀ a a' : A} {line line' : List ℕ} {len len' at : ℕ} {f : Step}
+      → Reaches block line₀ len₀ a₀ a line len at
+      → f ≡ scan 0 (take (length block - at) (drop at block)) line len .step
+      → line' ≡ scan 0 (take (length block - at) (drop at block)) line len .line
+      → len' ≡ countAfter f
+      → a' ≡ stepped event a line' f
+      → Reaches block line₀ len₀ a₀ a' line' len' (at + f .used)
+  unfolding countAfter stepped
+  turns {block} {line₀} {len₀} {a₀} {a} {a'} {line} {line'} {len} {len'} {at} reached p q u v l h =
+      let r = reached l h in
+      let x = scan 0 (drop at block) line len in
+      let g = feeds (drop at block) line len (r .since) (r .stands .size) (r .stands .keeps) in
+      rw (u, v, p, q, rest at block) (step-on block l a₀ a line len at r x g (x .step .ended) (sym (g .ends)))
+
+  -- a step that ended a line, and one that did not; the last line, and none
+  pub step-ended : (a : A) (line : List ℕ) (f : Step) → f .ended ≡ true → (0 ≡ countAfter f) × (event a (heard line (f .len)) ≡ stepped event a line f)
+  unfolding countAfter stepped
+  step-ended a line f e = rw e (refl, refl)
+
+  pub step-open : (a : A) (line : List ℕ) (f : Step) → f .ended ≡ false → (f .len ≡ countAfter f) × (a ≡ stepped event a line f)
+  unfolding countAfter stepped
+  step-open a line f e = rw e (refl, refl)
+
+  pub last-none : (a : A) (line : List ℕ) (len : ℕ) → len ≡ 0 → a ≡ finished event a line len
+  unfolding finished
+  last-none a line len e = rw (eq-eqb len 0 e)
+
+  pub last-line : (a : A) (line : List ℕ) (len : ℕ) → (len ≡ 0 → ⊥) → event a (heard line len) ≡ finished event a line len
+  unfolding finished
+  last-line a line len e = rw (ne-eqb len 0 e)
 
   -- two blocks one after the other do what the one block of both does: where a stream is cut makes no difference
-  pub joined : (s t l : List ℕ) (a b c : A) (line1 line2 : List ℕ) (len1 len2 : ℕ)
-      → Ran event s l a b line1 len1
-      → Ran event t (lines l s .since) b c line2 len2
-      → Ran event (s ++ t) l a c line2 len2
-  joined s t l a b c line1 line2 len1 len2 r q =
-      let first = lines l s in
-      let second = lines (first .since) t in
-      let e : lines l (s ++ t) ≡ record { done = first .done ++ second .done; since = second .since } =
-      cut-blocks 10 (record { done = []; since = l }) s t ∙ cut-behind 10 t (first .done) (first .since) in
+  pub joined : {s t line line' line'' : List ℕ} {len len' len'' : ℕ} {a b c : A}
+      → Carried event s line len a b line' len'
+      → Carried event t line' len' b c line'' len''
+      → Carried event (s ++ t) line len a c line'' len''
+  joined {s} {t} {line} {line'} {line''} {len} {len'} {len''} {a} first second l h =
+      let r = first l h in
+      let q = second (lines l s .since) (r .stands) in
+      let e : lines l (s ++ t) ≡ record { done = lines l s .done ++ lines (lines l s .since) t .done; since = lines (lines l s .since) t .since } =
+      cut-blocks 10 (record { done = []; since = l }) s t ∙ cut-behind 10 t (lines l s .done) (lines l s .since) in
       record {
-        state = q .state ∙ ap (λ (k : A). ran event k (second .done)) (r .state) ∙ sym (ran-append a (first .done) (second .done))
-            ∙ ap (λ (y : Cut). ran event a (y .done)) (sym e);
+        state = q .state ∙ ap (λ (k : A). ran event k (lines (lines l s .since) t .done)) (r .state)
+            ∙ sym (ran-append a (lines l s .done) (lines (lines l s .since) t .done)) ∙ ap (λ (y : Cut). ran event a (y .done)) (sym e);
         stands = rw e (q .stands);
       }

@@ -1,4 +1,4 @@
--- A stream of bytes cut at a separator, and its lines, of which at most 1,024 bytes are kept.
+-- A stream of bytes cut at a separator, and its lines, of which only so many bytes are kept.
 use Prim.Native.Nat.{ℕ, _+_, _≤_, _<_}
 use mathlib.Core.Path.{_≡_}
 use mathlib.Core.List.{List, [], _∷_, _++_}
@@ -7,14 +7,18 @@ use lib.ListN.{length, take, drop, set}
 use lib.Dec.{leb, ltb, eqb}
 use Rattle.text.specs.declared.Step.{Step}
 
+-- the most bytes of a line that are kept
+abbrev pub keptBytes : ℕ
+keptBytes = 1024
+
 -- ---- what the code does, to the byte
 
 -- the array and the count after one byte more
 unfoldable pub keptIn : List ℕ → ℕ → ℕ → List ℕ
-keptIn line len b = cond (ltb len 1024) (set line len b) line
+keptIn line len b = cond (ltb len keptBytes) (set line len b) line
 
 unfoldable pub keptLen : ℕ → ℕ
-keptLen len = cond (ltb len 1024) (len + 1) 1025
+keptLen len = cond (ltb len keptBytes) (len + 1) (keptBytes + 1)
 
 -- what reading a block did, and the array after it
 pub record Scanned : Type 0 where
@@ -36,18 +40,18 @@ pub record Used (used size : ℕ) : Type 0 where
 
 -- ---- what that means
 
--- a line's bytes, or that they are more than 1,024
+-- a line's bytes, or that they are more than are kept
 pub data Heard : Type 0 where
   bytes : List ℕ → Heard
   long : Heard
 
 -- what an array and a count stand for
 unfoldable pub heard : List ℕ → ℕ → Heard
-heard line len = cond (leb len 1024) (bytes (take len line)) long
+heard line len = cond (leb len keptBytes) (bytes (take len line)) long
 
 -- what is kept of a line
 unfoldable pub kept : List ℕ → Heard
-kept l = cond (leb (length l) 1024) (bytes l) long
+kept l = cond (leb (length l) keptBytes) (bytes l) long
 
 -- the bytes before the first x, those behind it, and whether there is one
 unfoldable pub before : ℕ → List ℕ → List ℕ
@@ -67,7 +71,7 @@ pub record Feeds (s l : List ℕ) (r : Scanned) : Type 0 where
   pub line : heard (r .line) (r .step .len) ≡ kept (l ++ before 10 s)
   pub ends : r .step .ended ≡ has 10 s
   pub rest : drop (r .step .used) s ≡ after 10 s
-  pub size : length (r .line) ≡ 1024
+  pub size : length (r .line) ≡ keptBytes
 
 -- ---- streams
 
@@ -88,10 +92,14 @@ cut x c (b ∷ s) = cut x (cutAt x c b) s
 abbrev pub lines : List ℕ → List ℕ → Cut
 lines l block = cut 10 (record { done = []; since = l }) block
 
--- an array of 1,024 bytes and a count stand for the bytes l of a line
+-- the count of the line that is read on after a step
+unfoldable pub countAfter : Step → ℕ
+countAfter f = cond (f .ended) 0 (f .len)
+
+-- an array and a count stand for the bytes l of a line
 pub record Stands (l line : List ℕ) (len : ℕ) : Type 0 where
   pub keeps : heard line len ≡ kept l
-  pub size : length line ≡ 1024
+  pub size : length line ≡ keptBytes
 
 module _ {A : Type 0} (event : A → Heard → A) where
   -- a program's state after lines, one event each
@@ -103,3 +111,15 @@ module _ {A : Type 0} (event : A → Heard → A) where
   pub record Ran (block l : List ℕ) (a a' : A) (line : List ℕ) (len : ℕ) : Type 0 where
     pub state : a' ≡ ran a (lines l block .done)
     pub stands : Stands (lines l block .since) line len
+
+  -- the same after whatever bytes the array and its count stood for
+  abbrev pub Carried : (block line : List ℕ) (len : ℕ) (a a' : A) (line' : List ℕ) (len' : ℕ) → Type 0
+  Carried block line len a a' line' len' = (l : List ℕ) → Stands l line len → Ran block l a a' line' len'
+
+  -- after a step of a line: its event, where it ended
+  unfoldable pub stepped : A → List ℕ → Step → A
+  stepped a line f = cond (f .ended) (event a (heard line (f .len))) a
+
+  -- at the stream's end: a last line that no LF ends counts, where it has a byte
+  unfoldable pub finished : A → List ℕ → ℕ → A
+  finished a line len = cond (eqb len 0) a (event a (heard line len))

@@ -1,9 +1,8 @@
 // Text that comes in blocks: cut into lines without a heap, a line into words, and numbers read exactly.
 //
-// A line that is being read is an array of 1,024 bytes that the caller lends, and a count. With the count at most 1,024 the line is
+// A line that is being read is an array of `KEPT` bytes that the caller lends, and a count. With the count at most `KEPT` the line is
 // that many bytes of the array, and any greater count is the one state "too long". So every pair of them means something, and no
-// condition has to travel with it. The longest line that a program here can take, a configuration of `replay` with every number at
-// its widest, has 739 bytes.
+// condition has to travel with it.
 pub mod output;
 
 ghost use mathlib.Core.Path.{_≡_};
@@ -12,6 +11,10 @@ ghost use lib.ListN.{length};
 ghost use Rattle.text.specs.Line.{Used, scan, keptIn, keptLen};
 ghost use Rattle.text.specs.Number.{naturalOf, signedOf, numberOf, flagOf};
 ghost use Rattle.text.specs.Word.{wordEnd};
+
+// The most bytes of a line that are kept. The longest line that a program here can take, a configuration of `replay` with every number
+// at its widest, has 739.
+pub const KEPT: usize = 1024;
 
 // What feeding a block did: how many of its bytes it used, the line's count, and whether the line ended there. The LF is used, and
 // is no part of the line.
@@ -40,19 +43,19 @@ pub enum Flag {
 }
 
 // One byte more of a line: the array keeps it while there is room. Answers the count.
-fn keep(line: &mut [u8; 1024], len: usize, b: u8) -> usize
+fn keep(line: &mut [u8; KEPT], len: usize, b: u8) -> usize
     ensures { λ r. ⌜ (r ≡ keptLen len) × (now (line .exit) ≡ keptIn (now (line .entry)) len b) ⌝ }
 {
-    if len < 1024 {
+    if len < KEPT {
         line[len] = b;
         len + 1
     } else {
-        1025
+        KEPT + 1
     }
 }
 
 // Reads s up to its first LF, or to its end, on to the line.
-pub fn feed(line: &mut [u8; 1024], len: usize, s: &[u8]) -> Step
+pub fn feed(line: &mut [u8; KEPT], len: usize, s: &[u8]) -> Step
     ensures { λ r. ⌜ r ≡ scan 0 (now (s .entry)) (now (line .entry)) len .step ⌝ }
     ensures { λ r. ⌜ now (line .exit) ≡ scan 0 (now (s .entry)) (now (line .entry)) len .line ⌝ }
     ensures { λ r. ⌜ Used (r .used) (length (now (s .entry))) ⌝ }

@@ -8,7 +8,7 @@ use lib.IntN.{ℤ}
 use lib.ListN.{length, drop, getD, set}
 use Rattle.exact.proofs.Z.{back32}
 use Rattle.text.specs.Line.{before as upTo}
-use Rattle.record.specs.Record.{kinds, settingOf}
+use Rattle.record.specs.Record.{wordCount, kinds, settingOf}
 use Rattle.record.proofs.Words.{word-is}
 use Rattle.record.proofs.Turns.{Reading, starts, all-read, no-setting, last-setting, next-setting}
 use borrow.Author.Needs.{needs}
@@ -17,10 +17,10 @@ use Rattle.record.proofs.configuration.Statement.{statement}
 use Rattle.record.proofs.configuration.Tie as tie
 
 abbrev Inv-loop : tie.InvT-loop
-Inv-loop s settings₀ at₀ i₀ settings at i = (at ≤ length s) × (i ≤ 73) × Reading s settings₀ settings at i
+Inv-loop s settings₀ at₀ i₀ settings at i = (at ≤ length s) × (i ≤ wordCount) × Reading s settings₀ settings at i
 
 abbrev μ-loop : tie.MeasureT-loop
-μ-loop s settings₀ at₀ i₀ settings at i = 73 - i
+μ-loop s settings₀ at₀ i₀ settings at i = wordCount - i
 
 loop-holds : tie.Need-loop-holds Inv-loop μ-loop
 loop-holds c = (omega arith, omega arith, starts _ _)

@@ -1,4 +1,4 @@
--- `record::is_flag` meets its contract: the tests agree with the table at each of its 73 places. Assumes nothing.
+-- `record::is_flag` meets its contract: the tests agree with the table at each of its places. Assumes nothing.
 use native.Mathlib.Omega.{arith}
 use Rattle.record.proofs.Settings.{kind-first, kind-alarm, kind-last}
 use Rattle.record.proofs.is_flag.Statement.{statement}

@@ -3,8 +3,9 @@ use native.Mathlib.Omega.{arith}
 use mathlib.Core.Path.{ap, _∙_}
 use mathlib.Core.List.{List}
 use Prim.Native.Nat.{ℕ}
+use Rattle.text.proofs.Laws.{part}
 use Rattle.record.specs.Record.{eventOf, readOf, stored}
-use Rattle.record.proofs.Said.{heard-long, heard-is, first, untouched}
+use Rattle.record.proofs.Said.{too-long, line-is, untouched}
 use borrow.Author.Needs.{needs}
 use Rattle.record.proofs.judge.Statement.{statement}
 use Rattle.record.proofs.judge.Tie as tie
@@ -12,7 +13,7 @@ use Rattle.record.proofs.judge.Tie as tie
 returns : tie.Need-returns
 returns c =
     let a = c .before .before .args in
-    let h = heard-long (a .line .now) (a .len) (omega arith) in
+    let h = too-long (a .line .now) (a .len) (omega arith) in
     (h .0, untouched (a .settings .now) (h .1))
 
 sub-parse : tie.Need-sub-parse
@@ -30,8 +31,8 @@ parse-requires c κs = search needs
 returns-2 : tie.Need-returns-2
 returns-2 c =
     let a = c .before .before .before .before .before .args in
-    let f = first (a .len) (a .line .now) in
-    let h = heard-is (a .line .now) (a .len) (omega arith) in (
+    let f = part 0 (a .len) (a .line .now) in
+    let h = line-is (a .line .now) (a .len) (omega arith) in (
       c .parse .ensures .0 ∙ ap eventOf f ∙ h .0,
       c .parse .ensures .1 ∙ ap (λ (l : List ℕ). stored 0 (a .settings .now) (readOf l)) f ∙ ap (stored 0 (a .settings .now)) (h .1),
     )

@@ -12,6 +12,9 @@ element-write-line c = search needs
 add-result : tie.Need-add-result
 add-result c = search needs
 
+add-result-2 : tie.Need-add-result-2
+add-result-2 c = search needs
+
 returns : tie.Need-returns
 unfolding keptIn keptLen
 returns c = rw (lt-ltb _ _ (c .if1 .taken)) (refl, refl)
@@ -21,4 +24,4 @@ unfolding keptIn keptLen
 returns-2 c = rw (le-ltb _ _ (c .if1 .left)) (refl, refl)
 
 pub keep-spec : {M : Type 1} → statement M
-keep-spec = tie.close (tie.spec element-write-line add-result returns returns-2)
+keep-spec = tie.close (tie.spec element-write-line add-result add-result-2 returns returns-2)
