@@ -7,8 +7,9 @@ use native.Mathlib.Omega.{arith}
 use lib.Dec.{leb, eqb}
 use lib.ListN.{length, take, drop, getD}
 use borrow.Author.Tests.{le-leb, lt-leb, eq-eqb, ne-eqb, leb-true, leb-false}
-use Rattle.text.specs.Line.{bytes, long, heard, kept}
+use Rattle.text.specs.Line.{keptBytes, bytes, long, heard, kept}
 use Rattle.text.proofs.Laws.{rest}
+use Rattle.text.proofs.Lines.{heard-is, heard-long}
 use Rattle.bench.specs.Grammar.{saidOf, parsed, judged, Payload}
 use Rattle.bench.specs.declared.grammar.Parsed.the-variants.{Bytes, Bad}
 
@@ -32,13 +33,13 @@ module _ (l : List ℕ) (h : 3 ≤ length l) (k : length l ≤ 82) where
   unfolding parsed
   said-is e = rw (rest 2 l, le-leb 3 (length l) h, le-leb (length l) 82 k, eq-eqb (getD l 1 0) 32 e)
 
-pub judged-long : (line : List ℕ) (len : ℕ) → 1024 < len → Bad ≡ judged (heard line len)
-unfolding judged heard
-judged-long line len h = rw (lt-leb len 1024 h)
+pub judged-long : (line : List ℕ) (len : ℕ) → keptBytes < len → Bad ≡ judged (heard line len)
+unfolding judged
+judged-long line len h = rw (heard-long line len h)
 
-pub judged-is : (line : List ℕ) (len : ℕ) → len ≤ 1024 → parsed (take len line) ≡ judged (heard line len)
-unfolding judged heard
-judged-is line len h = rw (le-leb len 1024 h)
+pub judged-is : (line : List ℕ) (len : ℕ) → len ≤ keptBytes → parsed (take len line) ≡ judged (heard line len)
+unfolding judged
+judged-is line len h = rw (heard-is line len h)
 
 bytes-size : (l : List ℕ) → Bytes ≡ parsed l → (2 < length l) × (length l ≤ 82)
 unfolding parsed
@@ -51,7 +52,7 @@ bytes-size l e = go (leb 3 (length l)) (leb (length l) 82) refl refl e
     go true false p q e = absurd (bytes-bad e)
     go false b p q e = absurd (bytes-bad e)
 
--- the array has 1,024 bytes, so the line has as many as the count says
+-- the array has all the bytes that are kept, so the line has as many as the count says
 pub payload : (line : List ℕ) (len : ℕ) → length (take len line) ≡ len → Bytes ≡ parsed (take len line) → Payload len
 payload line len h e =
     let k = bytes-size (take len line) e in
@@ -60,8 +61,8 @@ payload line len h e =
 -- a line that is too long for its array is bad anyway
 pub judged-kept : (l : List ℕ) → judged (kept l) ≡ parsed l
 unfolding judged kept
-judged-kept l = go (leb (length l) 1024) refl
+judged-kept l = go (leb (length l) keptBytes) refl
   where
-    go : (t : Bool) → leb (length l) 1024 ≡ t → judged (cond t (bytes l) long) ≡ parsed l
+    go : (t : Bool) → leb (length l) keptBytes ≡ t → judged (cond t (bytes l) long) ≡ parsed l
     go true p = refl
-    go false p = long-bad l (omega (arith, leb-false (length l) 1024 p))
+    go false p = long-bad l (omega (arith, leb-false (length l) keptBytes p))

@@ -1,27 +1,19 @@
 -- The meter over bytes and lines, over plain values. Assumes nothing.
 use mathlib.Core.Path.{_≡_, refl, sym, ap, ap₂, _∙_}
-use mathlib.Core.Bool.{Bool, true, false, cond}
-use mathlib.Core.List.{List, [], _∷_}
-use Prim.Native.Nat.{ℕ, zero, suc, _+_, _-_, _≤_, _<_}
-use native.Mathlib.Omega.{arith}
+use mathlib.Core.List.{List, []}
+use Prim.Native.Nat.{ℕ, _+_, _≤_, _<_}
 use native.Mathlib.Numerals.{add-one}
 use lib.IntN.{ℤ}
 use lib.ListN.{length, take, drop, getD}
-use lib.Seq.{drop-cons, drop-length, take-nil}
-use borrow.Author.Tests.{le-leb}
-use Rattle.text.specs.Line.{Heard, bytes, long, heard}
+use lib.Seq.{drop-cons, drop-length}
+use Rattle.text.specs.Line.{keptBytes, Heard, bytes, long, heard}
+use Rattle.text.proofs.Lines.{heard-is}
 use Rattle.meter.specs.Meter.{Step, sampled}
 use Rattle.meter.specs.declared.Meter.{Meter}
 use Rattle.meter.specs.declared.Outcome.{Outcome}
 use Rattle.bench.specs.Grammar.{judged}
 use Rattle.bench.specs.Bench.{sampleStep, byteStep, bytesOn, asTold, answered, effectBy, effect}
 use Rattle.bench.specs.declared.grammar.Parsed.{Parsed}
-
-pub picked : {A : Type 0} {t : Bool} (a b : A) → t ≡ true → a ≡ cond t a b
-picked a b e = ap (λ (t : Bool). cond t a b) (sym e)
-
-pub passed : {A : Type 0} {t : Bool} (a b : A) → t ≡ false → b ≡ cond t a b
-passed a b e = ap (λ (t : Bool). cond t a b) (sym e)
 
 -- ---- a sample, whose outcome touches no reply
 
@@ -51,19 +43,6 @@ pub bytes-out : (t : Step) (s : List ℕ) (i : ℕ) → i ≡ length s → bytes
 unfolding bytesOn
 bytes-out t s i e = ap (bytesOn t) (ap (λ (k : ℕ). drop k s) e ∙ drop-length s)
 
--- what `&l[m..n]` lends
-pub part : (m n : ℕ) (l : List ℕ) → take (n - m) (drop m l) ≡ drop m (take n l)
-part zero n l =
-    let z : n - 0 ≡ n = omega arith in
-    ap (λ (k : ℕ). take k l) z
-part (suc m) zero l =
-    let z : 0 - suc m ≡ 0 = omega arith in
-    ap (λ (k : ℕ). take k (drop (suc m) l)) z
-part (suc m) (suc n) [] = take-nil (suc n - suc m)
-part (suc m) (suc n) (b ∷ l) =
-    let z : suc n - suc m ≡ n - m = omega arith in
-    ap (λ (k : ℕ). take k (drop m l)) z ∙ part m n l
-
 -- ---- a line
 
 abbrev pub textOf : Heard → List ℕ
@@ -75,6 +54,5 @@ unfolding effect judged
 effects m reply (bytes l) p e = ap (effectBy m reply l) e
 effects m reply long p e = ap (effectBy m reply []) e
 
-pub text-is : (line : List ℕ) (len : ℕ) → len ≤ 1024 → textOf (heard line len) ≡ take len line
-unfolding heard
-text-is line len h = rw (le-leb len 1024 h)
+pub text-is : (line : List ℕ) (len : ℕ) → len ≤ keptBytes → textOf (heard line len) ≡ take len line
+text-is line len h = ap textOf (heard-is line len h)

@@ -2,6 +2,7 @@
 ghost use mathlib.Core.Path.{_≡_};
 ghost use Rattle.text.specs.Line.{heard};
 ghost use Rattle.bench.specs.Grammar.{sampleOf, keyOf, saidOf, parsed, judged, Payload};
+use text::KEPT;
 use text::Number;
 
 // Bytes has the line's bytes from index 2 on, of which there are 1 to 80.
@@ -59,11 +60,11 @@ fn parse(s: &[u8]) -> Parsed
 }
 
 // The line of an array and a count.
-pub fn judge(line: &[u8; 1024], len: usize) -> Parsed
+pub fn judge(line: &[u8; KEPT], len: usize) -> Parsed
     ensures { λ r. ⌜ r ≡ judged (heard (now (line .entry)) len) ⌝ }
     ensures { λ r. ⌜ (r ≡ Parsed.Bytes → Payload len) ⌝ }
 {
-    if 1024 < len {
+    if KEPT < len {
         return Parsed::Bad;
     }
     let s: &[u8] = line;

@@ -4,31 +4,21 @@
 // Standard input is read in blocks, and standard output written in blocks, so the memory is the same for any input.
 mod grammar;
 
-ghost use Prim.Native.Nat.{ℕ, _<_};
+ghost use Prim.Native.Nat.{_<_};
 ghost use mathlib.Core.Path.{_≡_};
-ghost use mathlib.Core.Bool.{cond};
-ghost use mathlib.Core.List.{List};
-ghost use lib.Dec.{eqb};
 ghost use lib.ListN.{length, drop, take};
-ghost use Rattle.config.specs.Bench.{benchMeter};
-ghost use Rattle.text.specs.Line.{heard, Stands, Ran};
+ghost use Rattle.text.specs.Line.{heard, countAfter, Carried, stepped, finished};
 ghost use Rattle.bench.specs.Grammar.{Payload};
 ghost use Rattle.bench.specs.Bench.{keyStep, byteStep, bytesStep, asTold, effect, stand, heardBy};
-use alarm::Settings;
 use answer::Answer;
-use config::Analog;
-use config::Config;
-use config::Places;
-use config::Print;
-use config::Scale;
 use grammar::Parsed;
 use libc::STDERR_FILENO;
 use libc::STDIN_FILENO;
 use meter::Meter;
 use meter::Outcome;
+use text::KEPT;
 use text::Step;
 use text::output::Out;
-use total::Totalizer;
 
 // What a line is told: the answer of its last event, or that it is no line of this program.
 enum Said {
@@ -87,7 +77,7 @@ fn all_bytes(m: Meter, s: &[u8], reply: &mut [u8]) -> Outcome
 }
 
 // The payload of a C line.
-fn payload(m: Meter, line: &[u8; 1024], len: usize, reply: &mut [u8]) -> Outcome
+fn payload(m: Meter, line: &[u8; KEPT], len: usize, reply: &mut [u8]) -> Outcome
     requires { ⌜ Payload len ⌝ }
     ensures { λ r. ⌜ r ≡ bytesStep m (drop 2 (take len (now (line .entry)))) (now (reply .entry)) .outcome ⌝ }
     ensures { λ _. ⌜ now (reply .exit) ≡ bytesStep m (drop 2 (take len (now (line .entry)))) (now (reply .entry)) .buffer ⌝ }
@@ -108,7 +98,7 @@ fn as_told(o: Outcome) -> Told
 }
 
 // A whole line.
-fn event(m: Meter, line: &[u8; 1024], len: usize, reply: &mut [u8]) -> Told
+fn event(m: Meter, line: &[u8; KEPT], len: usize, reply: &mut [u8]) -> Told
     ensures { λ r. ⌜ r ≡ effect m (now (reply .entry)) (heard (now (line .entry)) len) .told ⌝ }
     ensures { λ _. ⌜ now (reply .exit) ≡ effect m (now (reply .entry)) (heard (now (line .entry)) len) .reply ⌝ }
 {
@@ -160,9 +150,9 @@ fn put_said(buf: &mut [u8], o: Out, reply: &[u8], said: Said) -> Out {
 // ---- the stream
 
 // After a step of the line: the event, where it ended.
-fn stepped(line: &[u8; 1024], reply: &mut [u8], buf: &mut [u8], s: State, f: Step) -> State
-    ensures { λ r. ⌜ r .len ≡ cond (f .ended) 0 (f .len) ⌝ }
-    ensures { λ r. ⌜ stand (r .meter) (now (reply .exit)) ≡ cond (f .ended) (heardBy (stand (s .meter) (now (reply .entry))) (heard (now (line .entry)) (f .len))) (stand (s .meter) (now (reply .entry))) ⌝ }
+fn stepped(line: &[u8; KEPT], reply: &mut [u8], buf: &mut [u8], s: State, f: Step) -> State
+    ensures { λ r. ⌜ r .len ≡ countAfter f ⌝ }
+    ensures { λ r. ⌜ stand (r .meter) (now (reply .exit)) ≡ stepped heardBy (stand (s .meter) (now (reply .entry))) (now (line .entry)) f ⌝ }
 {
     if f.ended {
         return answered(line, f.len, reply, buf, s);
@@ -173,7 +163,7 @@ fn stepped(line: &[u8; 1024], reply: &mut [u8], buf: &mut [u8], s: State, f: Ste
 }
 
 // A line that has ended: its event, and what it is told.
-fn answered(line: &[u8; 1024], len: usize, reply: &mut [u8], buf: &mut [u8], s: State) -> State
+fn answered(line: &[u8; KEPT], len: usize, reply: &mut [u8], buf: &mut [u8], s: State) -> State
     ensures { λ r. ⌜ r .len ≡ 0 ⌝ }
     ensures { λ r. ⌜ stand (r .meter) (now (reply .exit)) ≡ heardBy (stand (s .meter) (now (reply .entry))) (heard (now (line .entry)) len) ⌝ }
 {
@@ -185,9 +175,8 @@ fn answered(line: &[u8; 1024], len: usize, reply: &mut [u8], buf: &mut [u8], s: 
 }
 
 // The lines that a block ends, and the start of the one that it leaves open.
-fn lines(block: &[u8], line: &mut [u8; 1024], reply: &mut [u8], buf: &mut [u8], s: State) -> State
-    ensures { λ r. ⌜ ((l : List ℕ) → Stands l (now (line .entry)) (s .len)
-        → Ran heardBy (now (block .entry)) l (stand (s .meter) (now (reply .entry))) (stand (r .meter) (now (reply .exit))) (now (line .exit)) (r .len)) ⌝ }
+fn lines(block: &[u8], line: &mut [u8; KEPT], reply: &mut [u8], buf: &mut [u8], s: State) -> State
+    ensures { λ r. ⌜ Carried heardBy (now (block .entry)) (now (line .entry)) (s .len) (stand (s .meter) (now (reply .entry))) (stand (r .meter) (now (reply .exit))) (now (line .exit)) (r .len) ⌝ }
 {
     let mut t = s;
     let mut at = 0;
@@ -202,7 +191,7 @@ fn lines(block: &[u8], line: &mut [u8; 1024], reply: &mut [u8], buf: &mut [u8], 
 // Reads once, and does what came. A read that fails ends the input, and so does a write that fails.
 fn one_turn(
     block: &mut [u8],
-    line: &mut [u8; 1024],
+    line: &mut [u8; KEPT],
     reply: &mut [u8],
     buf: &mut [u8],
     s: State,
@@ -224,8 +213,8 @@ fn one_turn(
 }
 
 // A last line that no LF ends counts, where it has a byte.
-fn end(line: &[u8; 1024], reply: &mut [u8], buf: &mut [u8], s: State) -> State
-    ensures { λ r. ⌜ stand (r .meter) (now (reply .exit)) ≡ cond (eqb (s .len) 0) (stand (s .meter) (now (reply .entry))) (heardBy (stand (s .meter) (now (reply .entry))) (heard (now (line .entry)) (s .len))) ⌝ }
+fn end(line: &[u8; KEPT], reply: &mut [u8], buf: &mut [u8], s: State) -> State
+    ensures { λ r. ⌜ stand (r .meter) (now (reply .exit)) ≡ finished heardBy (stand (s .meter) (now (reply .entry))) (now (line .entry)) (s .len) ⌝ }
 {
     if s.len == 0 {
         return s;
@@ -237,7 +226,7 @@ fn end(line: &[u8; 1024], reply: &mut [u8], buf: &mut [u8], s: State) -> State
 // run uses up: at a turn each nanosecond it would take more than five hundred years.
 fn run(
     block: &mut [u8],
-    line: &mut [u8; 1024],
+    line: &mut [u8; KEPT],
     reply: &mut [u8],
     buf: &mut [u8],
     s: State,
@@ -254,56 +243,11 @@ fn run(
     t.state
 }
 
-// ---- the meter
-
-// The bench meter of document 01.
-fn bench_config() -> Config
-    ensures { λ r. ⌜ r ≡ benchMeter ⌝ }
-{
-    let settings = Settings {
-        hysteresis: 1,
-        on_delay: 0,
-        off_delay: 0,
-        low_acting: false,
-        latched: false,
-    };
-    Config {
-        node: 5,
-        places: Places { input: 1, total: 0 },
-        scale: Scale {
-            step: 1,
-            count: 2,
-            inputs: [0, 1000, 0, 0, 0, 0, 0, 0, 0, 0, 0, 0, 0, 0, 0, 0],
-            displays: [0, 2000, 0, 0, 0, 0, 0, 0, 0, 0, 0, 0, 0, 0, 0, 0],
-        },
-        totalizer: Totalizer {
-            batch: false,
-            low_cut: -19999,
-            factor: 1000,
-            time_base: 60,
-        },
-        setpoints: [100, 200, 300, 400],
-        alarms: [settings; 4],
-        capture: 0,
-        analog: Analog {
-            low: 0,
-            high: 10000,
-        },
-        abbreviated: false,
-        print: Print {
-            input: false,
-            extremes: false,
-            total: false,
-            setpoints: false,
-        },
-    }
-}
-
 fn main() {
-    let o = Meter::power_up(bench_config());
+    let o = Meter::power_up(config::bench());
     let meter = o.meter;
     let mut block = io::large_buffer();
-    let mut line = [0u8; 1024];
+    let mut line = [0u8; KEPT];
     let mut reply = [0u8; 163];
     let mut buf = io::large_buffer();
     let begun = State {

@@ -13,17 +13,15 @@ use alarm::Settings;
 use answer::Answer;
 use config::Analog;
 use config::Config;
-use config::Places;
-use config::Print;
-use config::Scale;
 use libc::STDIN_FILENO;
 use libc::STDOUT_FILENO;
 use meter::Meter;
 use meter::Outcome;
+use register::Print;
+use text::KEPT;
 use text::Natural;
 use text::Number;
 use text::Step;
-use total::Totalizer;
 
 // ---- the meter
 
@@ -37,74 +35,75 @@ fn alarm(on_delay: i32, off_delay: i32, low_acting: bool, latched: bool) -> Sett
     }
 }
 
-// Node 5 with points on a curve that bends at each, four alarms of several kinds with delays, a capture time, and every line printed.
-// All 16 points are in use, or none for a meter that is refused.
-fn cost_config(count: i32) -> Config {
-    let first = alarm(1, 1, false, false);
-    let second = alarm(2, 2, false, false);
-    let third = alarm(1, 0, false, true);
-    let fourth = alarm(1, 1, true, false);
-    Config {
-        node: 5,
-        places: Places { input: 1, total: 0 },
-        scale: Scale {
-            step: 5,
-            count,
-            inputs: [
-                0,
-                1000,
-                2000,
-                3000,
-                4000,
-                5000,
-                6000,
-                7000,
-                8000,
-                9000,
-                10000,
-                11000,
-                12000,
-                13000,
-                14000,
-                15000,
-            ],
-            displays: [
-                0,
-                40,
-                150,
-                330,
-                580,
-                900,
-                1280,
-                1720,
-                2210,
-                2740,
-                3300,
-                3870,
-                4430,
-                4970,
-                5480,
-                6000,
-            ],
-        },
-        totalizer: Totalizer {
-            batch: false,
-            low_cut: 0,
-            factor: 1000,
-            time_base: 60,
-        },
-        setpoints: [1000, 3000, 5000, 200],
-        alarms: [first, second, third, fourth],
-        capture: 1,
-        analog: Analog { low: 0, high: 6000 },
-        abbreviated: false,
-        print: Print {
-            input: true,
-            extremes: true,
-            total: true,
-            setpoints: true,
-        },
-    }
+// The bench meter with 16 points on a curve that bends at each, four alarms of several kinds with delays, a capture time, and every line
+// printed.
+fn cost_config() -> Config {
+    let mut c = config::bench();
+    let mut scale = c.scale;
+    scale.step = 5;
+    scale.count = 16;
+    scale.inputs = [
+        0,
+        1000,
+        2000,
+        3000,
+        4000,
+        5000,
+        6000,
+        7000,
+        8000,
+        9000,
+        10000,
+        11000,
+        12000,
+        13000,
+        14000,
+        15000,
+    ];
+    scale.displays = [
+        0,
+        40,
+        150,
+        330,
+        580,
+        900,
+        1280,
+        1720,
+        2210,
+        2740,
+        3300,
+        3870,
+        4430,
+        4970,
+        5480,
+        6000,
+    ];
+    let mut working = c.working;
+    let mut totalizer = working.totalizer;
+    totalizer.low_cut = 0;
+    working.totalizer = totalizer;
+    working.capture = 1;
+    working.alarms = [
+        alarm(1, 1, false, false),
+        alarm(2, 2, false, false),
+        alarm(1, 0, false, true),
+        alarm(1, 1, true, false),
+    ];
+    let analog = Analog { low: 0, high: 6000 };
+    working.analog = analog;
+    let mut talking = c.talking;
+    let print = Print {
+        input: true,
+        extremes: true,
+        total: true,
+        setpoints: true,
+    };
+    talking.print = print;
+    c.scale = scale;
+    c.working = working;
+    c.talking = talking;
+    c.setpoints = [1000, 3000, 5000, 200];
+    c
 }
 
 // ---- the events
@@ -189,13 +188,13 @@ fn bytes(m: Meter, list: &[u8], buffer: &mut [u8], times: u64) -> Outcome
 
 // A meter that has had one round of samples, so that it has a reading, a total, a max and a min to show.
 fn started() -> Meter {
-    let o = Meter::power_up(cost_config(16));
+    let o = Meter::power_up(cost_config());
     let p = mixed_samples(o.meter, &INPUTS, 16);
     p.meter
 }
 
 fn not_started() -> Meter {
-    let o = Meter::power_up(cost_config(0));
+    let o = Meter::power_up(config::nothing());
     o.meter
 }
 
@@ -298,10 +297,10 @@ fn carried_out(s: &[u8]) {
 }
 
 // The line of an array and a count, where it has ended there.
-fn stepped(line: &[u8; 1024], f: Step) {
+fn stepped(line: &[u8; KEPT], f: Step) {
     let len = f.len;
     if f.ended {
-        if len <= 1024 {
+        if len <= KEPT {
             let s: &[u8] = line;
             carried_out(&s[..len]);
         }
@@ -309,7 +308,7 @@ fn stepped(line: &[u8; 1024], f: Step) {
 }
 
 // The lines of a block.
-fn lines(block: &[u8], line: &mut [u8; 1024]) {
+fn lines(block: &[u8], line: &mut [u8; KEPT]) {
     let mut at = 0;
     while at < block.len() {
         let f = text::feed(&mut *line, 0, &block[at..]);
@@ -320,7 +319,7 @@ fn lines(block: &[u8], line: &mut [u8; 1024]) {
 
 fn main() {
     let mut block = io::buffer();
-    let mut line = [0u8; 1024];
+    let mut line = [0u8; KEPT];
     let n = io::read_full(STDIN_FILENO, &mut block);
     lines(&block[0..n], &mut line);
 }

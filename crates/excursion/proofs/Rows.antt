@@ -9,19 +9,22 @@ use lib.ListN.{replicate}
 use Rattle.exact.specs.Exact.{halfUp, nearest, toStep}
 use Rattle.reading.specs.Reading as readings
 use Rattle.run.specs.Run.{samples, counted}
-use Rattle.alarm.specs.Alarm as alarms
+use Rattle.alarm.specs.Alarm as one-alarm
 use Rattle.alarm.specs.Alarm.{alarm}
 use Rattle.alarm.specs.declared.Alarm.{Alarm}
+use Rattle.alarms.specs.Alarms as alarms
+use Rattle.alarms.specs.Alarms.{alarmAt}
 use Rattle.command.specs.declared.Asked.the-variants.{Read}
 use Rattle.config.specs.Bench.{high}
-use Rattle.instrument.specs.Instrument.{alarmAt, read}
+use Rattle.register.specs.Registers.{at}
+use Rattle.instrument.specs.Instrument.{read}
 use Rattle.instrument.specs.declared.Instrument.{Instrument}
 use Rattle.looking.specs.History.{History, sample}
 use Rattle.looking.specs.Kept.{kept}
 use Rattle.looking.specs.Given.{given}
 use Rattle.looking.specs.Polls.{poll, polls, polled, bench, asking, excursion, lit}
 use Rattle.looking.proofs.OffDelay.{accepted, reads}
-use Rattle.looking.proofs.Sound.{demand-3}
+use Rattle.looking.proofs.Demand.{demand-3}
 use Rattle.excursion.specs.Old.{oldAlarm, oldLit}
 use Rattle.excursion.specs.Rows.{Rows}
 
@@ -32,7 +35,7 @@ inputs k = replicate k (pos 40) ++ pos 60 ∷ []
 -- ── this core ──
 
 same : (n k : ℕ) → lit n k ≡ lit 0 k
-same n k = ap (λ (i : Instrument). alarmAt (i .alarms) 0 .on) (demand-3 .polls bench accepted asking (Read 4) reads n (inputs k))
+same n k = ap (λ (i : Instrument). alarmAt (i .alarms) 0 .on) (demand-3 .polls bench accepted asking (Read (at "E")) reads n (inputs k))
 
 -- ── the old core where nobody looks ──
 
@@ -51,11 +54,11 @@ unlooked k =
 
 -- every definition that a sample of one alarm is computed by
 opened : Unit {0}
-unfolding readings.readingOf readings.displayed readings.judged readings.line readings.segment readings.firstFrom halfUp nearest toStep samples counted alarms.sampled alarms.moved alarms.awaited alarms.delay alarms.onCondition alarms.offCondition alarms.above alarms.atMost
+unfolding readings.readingOf readings.displayed readings.judged readings.onLine readings.segment readings.firstFrom halfUp nearest toStep samples counted one-alarm.sampled one-alarm.moved one-alarm.awaited one-alarm.delay one-alarm.onCondition one-alarm.offCondition one-alarm.above one-alarm.atMost
 opened = tt
 
 abbrev sampled : Alarm → ℤ → Alarm
-sampled a x = alarms.sampled (high (pos 0) (pos 2)) a (read bench x)
+sampled a x = one-alarm.sampled (high (pos 0) (pos 2)) a (read (bench .scale) x)
 
 abbrev on : ℕ → Alarm
 on r = alarm (pos 100) true r

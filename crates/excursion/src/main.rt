@@ -4,22 +4,18 @@
 // theorem `OffDelay.always` speaks of these rows.
 use alarm::Alarm;
 use alarm::Settings;
-use config::Analog;
 use config::Config;
-use config::Places;
-use config::Print;
-use config::Scale;
 use libc::STDOUT_FILENO;
 use meter::Meter;
 use reading::Reading;
-use total::Totalizer;
 ghost use mathlib.Core.Path.{_≡_};
 ghost use mathlib.Core.List.{_∷_};
 ghost use lib.IntN.{ℤ, pos};
-ghost use Rattle.instrument.specs.Instrument.{alarmAt, read};
-ghost use Rattle.looking.specs.History.{History, sample, byte, run};
+ghost use Rattle.alarms.specs.Alarms.{alarmAt};
+ghost use Rattle.instrument.specs.Instrument.{read};
+ghost use Rattle.looking.specs.History.{History, sample, byte, meterAfter};
 ghost use Rattle.config.specs.Bench.{high};
-ghost use Rattle.looking.specs.Polls.{lent, poll, polls, bench, asking, excursion, lit};
+ghost use Rattle.looking.specs.Polls.{lent, poll, polls, bench, asking, lit};
 ghost use Rattle.excursion.specs.Old.{oldAlarm, oldLit};
 ghost use Rattle.excursion.specs.Row.{digit, rowOf};
 
@@ -42,45 +38,18 @@ fn settings(off_delay: i32) -> Settings
 fn bench_config() -> Config
     ensures { λ r. ⌜ r ≡ bench ⌝ }
 {
-    let delayed = settings(2);
-    let plain = settings(0);
-    Config {
-        node: 5,
-        places: Places { input: 1, total: 0 },
-        scale: Scale {
-            step: 1,
-            count: 2,
-            inputs: [0, 1000, 0, 0, 0, 0, 0, 0, 0, 0, 0, 0, 0, 0, 0, 0],
-            displays: [0, 2000, 0, 0, 0, 0, 0, 0, 0, 0, 0, 0, 0, 0, 0, 0],
-        },
-        totalizer: Totalizer {
-            batch: false,
-            low_cut: -19999,
-            factor: 1000,
-            time_base: 60,
-        },
-        setpoints: [100, 200, 300, 400],
-        alarms: [delayed, plain, plain, plain],
-        capture: 0,
-        analog: Analog {
-            low: 0,
-            high: 10000,
-        },
-        abbreviated: false,
-        print: Print {
-            input: false,
-            extremes: false,
-            total: false,
-            setpoints: false,
-        },
-    }
+    let mut c = config::bench();
+    let mut working = c.working;
+    working.alarms[0] = settings(2);
+    c.working = working;
+    c
 }
 
 // ---- this core, by its public calls: where the meter is the one that a history leaves, the longer history leaves what comes back
 
 // One byte, with a buffer of 163 zeros lent for it.
 fn heard(m: Meter, b: u8) -> Meter
-    ensures { λ r. ⌜ ((h : History) → m ≡ run bench h → r ≡ run bench (byte b 0 lent ∷ h)) ⌝ }
+    ensures { λ r. ⌜ ((h : History) → m ≡ meterAfter bench h → r ≡ meterAfter bench (byte b 0 lent ∷ h)) ⌝ }
 {
     let mut buffer = [0u8; 163];
     let o = m.byte(b, &mut buffer, 0);
@@ -89,7 +58,7 @@ fn heard(m: Meter, b: u8) -> Meter
 
 // The string that asks node 5 for its first setpoint, sent whole.
 fn polled(m: Meter) -> Meter
-    ensures { λ r. ⌜ ((h : History) → m ≡ run bench h → r ≡ run bench (poll asking h)) ⌝ }
+    ensures { λ r. ⌜ ((h : History) → m ≡ meterAfter bench h → r ≡ meterAfter bench (poll asking h)) ⌝ }
 {
     let n = heard(m, b'N');
     let five = heard(n, b'5');
@@ -100,7 +69,7 @@ fn polled(m: Meter) -> Meter
 
 // So many polls.
 fn polled_often(m: Meter, times: usize) -> Meter
-    ensures { λ r. ⌜ ((h : History) → m ≡ run bench h → r ≡ run bench (polls asking times h)) ⌝ }
+    ensures { λ r. ⌜ ((h : History) → m ≡ meterAfter bench h → r ≡ meterAfter bench (polls asking times h)) ⌝ }
 {
     let mut after = m;
     let mut i = 0;
@@ -113,7 +82,7 @@ fn polled_often(m: Meter, times: usize) -> Meter
 
 // A sample, and the polls behind it.
 fn sampled(m: Meter, input: i32, times: usize) -> Meter
-    ensures { λ r. ⌜ ((h : History) → m ≡ run bench h → r ≡ run bench (polls asking times (sample input ∷ h))) ⌝ }
+    ensures { λ r. ⌜ ((h : History) → m ≡ meterAfter bench h → r ≡ meterAfter bench (polls asking times (sample input ∷ h))) ⌝ }
 {
     let o = m.sample(input);
     polled_often(o.meter, times)
@@ -174,7 +143,7 @@ fn old_polled_often(a: Alarm, times: usize) -> Alarm
 
 // A sample by its reading, and the polls behind it.
 fn old_sampled(a: Alarm, reading: i32, times: usize) -> Alarm
-    ensures { λ r. ⌜ ((h : History) (x : ℤ) → a ≡ oldAlarm h → read bench x ≡ Reading.Number reading → r ≡ oldAlarm (polls asking times (sample x ∷ h))) ⌝ }
+    ensures { λ r. ⌜ ((h : History) (x : ℤ) → a ≡ oldAlarm h → read (bench .scale) x ≡ Reading.Number reading → r ≡ oldAlarm (polls asking times (sample x ∷ h))) ⌝ }
 {
     let moved = alarm::sampled(settings(2), a, Reading::Number(reading));
     old_polled_often(moved, times)

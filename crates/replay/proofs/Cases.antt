@@ -9,8 +9,9 @@ use Rattle.exact.specs.Sign.{minus}
 use Rattle.answer.specs.declared.Answer.the-variants.{Done, Replied, Refused, NotStarted}
 use Rattle.extremes.specs.Extremes as extremes
 use Rattle.register.specs.Bytes.{ascii}
+use Rattle.total.specs.Total as total
 use Rattle.meter.specs.Meter.{notStarted}
-use Rattle.replay.specs.Show.{fewest, numeral, signed, named, counted, hex, powerLine, readingWord, quotientOf, totalWords, trimmed, bufferWords, extremeWords, measuredWords, setpointWords, stateWords, runWords, alarmWords, modeWords, drivenWords, receivedWords, meterWords, eventLine}
+use Rattle.replay.specs.Show.{fewest, numeral, signed, named, counted, hex, powerLine, readingWord, quotientOf, totalWords, trimmed, bufferWords, extremeWords, measuredWords, setpointWords, stateWords, runWords, alarmWords, modeWords, outputWords, receivedWords, meterWords, eventLine}
 
 -- pieces as one text
 abbrev whole : List (List ℕ) → List ℕ
@@ -46,5 +47,5 @@ rows =
     ∷ []
 
 pub cases : map (λ (r : Row). whole (r .pieces)) rows ≡ map (λ (r : Row). r .text) rows
-unfolding fewest numeral signed named counted hex readingWord quotientOf totalWords trimmed bufferWords extremeWords measuredWords setpointWords stateWords runWords alarmWords modeWords drivenWords receivedWords meterWords eventLine cut extremes.shown extremes.reset
+unfolding fewest numeral signed named counted hex readingWord quotientOf totalWords trimmed bufferWords extremeWords measuredWords setpointWords stateWords runWords alarmWords modeWords outputWords receivedWords meterWords eventLine total.quotient total.unitOf cut extremes.shown extremes.reset
 cases = refl

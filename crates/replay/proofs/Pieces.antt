@@ -18,7 +18,11 @@ use Rattle.exact.specs.Sign.{isNeg}
 use Rattle.exact.proofs.Z.{abs-mul}
 use Rattle.answer.specs.declared.Answer.{Answer}
 use Rattle.meter.specs.declared.Meter.{Meter}
+use Rattle.receiver.specs.Receiver.{over}
+use Rattle.receiver.specs.declared.Receiver.{Receiver}
 use Rattle.register.specs.Bytes.{ascii}
+use Rattle.total.specs.Total.{unitOf, quotient}
+use Rattle.total.specs.declared.Totalizer.{Totalizer}
 use Rattle.text.specs.Output.{Waiting, putIn, puts}
 use Rattle.text.proofs.Waits.{puts-append}
 use Rattle.replay.specs.Show.{fewest, numeral, signed, hexByte, hex, quotientOf, kept, trimmed, bufferWords, receivedWords, meterWords, isNotStarted, answerHead, eventLine}
@@ -132,13 +136,13 @@ trim-out l n e = ap (λ (k : ℕ). trimmed (take k l)) e
 
 -- ---- the total
 
-pub quotient-none : (sum base : ℤ) → ltZ base (pos 1) ≡ true → pos 0 ≡ quotientOf sum base
+pub quotient-none : (s : Totalizer) (sum : ℤ) → ltZ (s .«time_base») (pos 1) ≡ true → pos 0 ≡ quotientOf s sum
 unfolding quotientOf
-quotient-none sum base e = rw e
+quotient-none s sum e = rw e
 
-pub quotient-is : (sum base : ℤ) → ltZ base (pos 1) ≡ false → cut sum (natAbs (pos 20000 *ℤ base)) ≡ quotientOf sum base
-unfolding quotientOf
-quotient-is sum base e = rw (e, abs-mul (pos 20000) base)
+pub quotient-is : (s : Totalizer) (sum : ℤ) → ltZ (s .«time_base») (pos 1) ≡ false → cut sum (natAbs (pos 20000 *ℤ s .«time_base»)) ≡ quotientOf s sum
+unfolding quotientOf quotient unitOf
+quotient-is s sum e = rw (e, abs-mul (pos 20000) (s .«time_base»))
 
 -- ---- the sixteen digits
 
@@ -167,14 +171,14 @@ hex-digit d h =
 
 -- ---- lines
 
-pub received-long : (bytes : List ℕ) (n : ℕ) → 32 < n → ((ascii " RX=" ∷ []) ++ (ascii "- RXO=1" ∷ [])) ≡ receivedWords bytes n
+pub received-long : (r : Receiver) → over (r .length) ≡ true → ((ascii " RX=" ∷ []) ++ (ascii "- RXO=1" ∷ [])) ≡ receivedWords r
 unfolding receivedWords
-received-long bytes n h = rw (lt-ltb 32 n h)
+received-long r h = rw h
 
-pub received-held : (bytes : List ℕ) (n : ℕ) → n ≤ 32
-    → ((ascii " RX=" ∷ []) ++ (hex (take n bytes) ++ (ascii " RXO=0" ∷ []))) ≡ receivedWords bytes n
+pub received-held : (r : Receiver) → over (r .length) ≡ false
+    → ((ascii " RX=" ∷ []) ++ (hex (take (r .length) (r .bytes)) ++ (ascii " RXO=0" ∷ []))) ≡ receivedWords r
 unfolding receivedWords
-received-held bytes n h = rw (le-ltb 32 n h)
+received-held r h = rw h
 
 pub event-off : (a : Answer) (m : Meter) (buffer : List ℕ) → isNotStarted a ≡ true → answerHead a ++ bufferWords buffer ≡ eventLine a m buffer
 unfolding eventLine

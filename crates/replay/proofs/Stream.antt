@@ -1,6 +1,5 @@
 -- The meter over lines, over plain values. Assumes nothing.
 use mathlib.Core.Path.{_≡_, refl, sym, ap, ap₂, _∙_}
-use mathlib.Core.Bool.{Bool, true, false, cond}
 use mathlib.Core.List.{List, [], _∷_, _++_}
 use Prim.Native.Nat.{ℕ, zero, suc, _+_, _<_}
 use native.Mathlib.Numerals.{add-one}
@@ -10,18 +9,12 @@ use lib.Seq.{take-suc-set, take-length}
 use Rattle.text.specs.Line.{Heard}
 use Rattle.text.specs.Output.{Waiting, puts}
 use Rattle.meter.specs.declared.Meter.{Meter}
-use Rattle.record.specs.Record.{eventHeard, readHeard, stored}
+use Rattle.record.specs.Record.{wordCount, eventHeard, readHeard, stored}
 use Rattle.record.specs.declared.Event.{Event}
 use Rattle.record.specs.declared.Event.the-variants.{Configuration}
 use Rattle.record.proofs.Meaning.{stored-size, configured}
 use Rattle.replay.specs.Replay.{filled, sampleStep, answered, effectBy, effect, shownOf, stand, standAfter, heardBy}
 use Rattle.replay.specs.declared.Told.{Told}
-
-pub picked : {A : Type 0} {t : Bool} (a b : A) → t ≡ true → a ≡ cond t a b
-picked a b e = ap (λ (t : Bool). cond t a b) (sym e)
-
-pub passed : {A : Type 0} {t : Bool} (a b : A) → t ≡ false → b ≡ cond t a b
-passed a b e = ap (λ (t : Bool). cond t a b) (sym e)
 
 -- ---- a buffer that is filled byte by byte
 
@@ -49,7 +42,7 @@ unfolding sampleStep
 sampled-told m z buffer = refl
 
 -- a configuration is that of the line's own settings, whatever the array held before
-pub settled : (h : Heard) (old : List ℤ) → Configuration ≡ eventHeard h → length (stored 0 old (readHeard h)) ≡ 73
+pub settled : (h : Heard) (old : List ℤ) → Configuration ≡ eventHeard h → length (stored 0 old (readHeard h)) ≡ wordCount
     → stored 0 old (readHeard h) ≡ readHeard h
 settled h old e n = configured h old e (sym (stored-size 0 old (readHeard h)) ∙ n)
 

@@ -4,7 +4,7 @@ use mathlib.Core.List.{List, [], _∷_, _++_}
 use lib.IntN.{ℤ}
 use lib.ListN.{length, replicate}
 use Rattle.text.specs.Line.{Heard}
-use Rattle.text.specs.Output.{Waiting, puts}
+use Rattle.text.specs.Output.{Waiting, waiting, puts}
 use Rattle.register.specs.Bytes.{ascii}
 use Rattle.config.specs.declared.Config.{Config}
 use Rattle.meter.specs.Meter.{Step, poweredUp, sampled, keyed, received}
@@ -16,6 +16,7 @@ use Rattle.record.specs.declared.Event.{Event}
 use Rattle.record.specs.declared.Event.the-variants.{Configuration, Sample, Key, Byte, Bad}
 use Rattle.replay.specs.declared.Said.{Said}
 use Rattle.replay.specs.declared.Said.the-variants.{PoweredUp, Answered, Unknown}
+use Rattle.replay.specs.declared.State.{State}
 use Rattle.replay.specs.declared.Told.{Told}
 use Rattle.replay.specs.Show.{powerLine, eventLine}
 
@@ -91,6 +92,10 @@ pub record Stand : Type 0 where
 
 abbrev pub stand : Meter → List ℕ → Waiting → Stand
 stand m buffer out = record { meter = m; buffer = buffer; out = out }
+
+-- where the program stands, with the bytes of what waits
+abbrev pub standing : State → List ℕ → List ℕ → Stand
+standing s buffer bytes = stand (s .meter) buffer (waiting (s .out .at) bytes)
 
 abbrev pub standAfter : Waiting → Effect → Stand
 standAfter out x = stand (x .told .meter) (x .buffer) (puts out (printed x))

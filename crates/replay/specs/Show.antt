@@ -1,5 +1,5 @@
 -- What is printed of a line, piece by piece.
-use Prim.Native.Nat.{ℕ, zero, suc, _+_, _*_, _/_, _%_, _^_}
+use Prim.Native.Nat.{ℕ, zero, suc, _+_, _/_, _%_, _^_}
 use mathlib.Core.Bool.{Bool, cond}
 use mathlib.Core.List.{List, [], _∷_, _++_, map}
 use lib.Dec.{ltb, eqb}
@@ -7,7 +7,6 @@ use lib.IntN.{ℤ, pos, natAbs}
 use lib.ListN.{take}
 use lib.Signed.{ltZ}
 use Rattle.io.specs.Digits.{digits, glyph}
-use Rattle.exact.specs.Exact.{cut}
 use Rattle.exact.specs.Sign.{isNeg}
 use Rattle.answer.specs.Answer as answers
 use Rattle.answer.specs.declared.Answer.{Answer}
@@ -17,11 +16,16 @@ use Rattle.reading.specs.declared.Reading.the-variants as reading
 use Rattle.extremes.specs.Extremes as extremes
 use Rattle.extremes.specs.declared.Extreme.{Extreme}
 use Rattle.alarm.specs.declared.Alarm.{Alarm}
-use Rattle.instrument.specs.Instrument.{alarmAt}
-use Rattle.instrument.specs.declared.Instrument.{Instrument}
-use Rattle.instrument.specs.declared.Mode.{Mode}
-use Rattle.instrument.specs.declared.Mode.the-variants.{Automatic, Manual}
+use Rattle.alarms.specs.Alarms.{alarmAt}
+use Rattle.measured.specs.declared.Measured.{Measured}
+use Rattle.outputs.specs.declared.Mode.{Mode}
+use Rattle.outputs.specs.declared.Mode.the-variants.{Automatic, Manual}
+use Rattle.outputs.specs.declared.Outputs.{Outputs}
+use Rattle.receiver.specs.Receiver.{over}
+use Rattle.receiver.specs.declared.Receiver.{Receiver}
 use Rattle.meter.specs.declared.Meter.{Meter}
+use Rattle.total.specs.Total.{quotient}
+use Rattle.total.specs.declared.Totalizer.{Totalizer}
 use Rattle.total.specs.declared.Total.{Total}
 use Rattle.total.specs.declared.Range.{Range}
 use Rattle.total.specs.declared.Range.the-variants as range
@@ -74,16 +78,16 @@ readingWord name (reading.Number v) = named name v
 readingWord name reading.Over = name ∷ ascii "OL" ∷ []
 
 -- the total of a sum, where the time base is one that can be
-unfoldable pub quotientOf : ℤ → ℤ → ℤ
-quotientOf sum base = cond (ltZ base (pos 1)) (pos 0) (cut sum (20000 * natAbs base))
+unfoldable pub quotientOf : Totalizer → ℤ → ℤ
+quotientOf s sum = cond (ltZ (s .«time_base») (pos 1)) (pos 0) (quotient s sum)
 
 abbrev pub rangeWord : Range → ℤ → List (List ℕ)
 rangeWord range.Within q = named (ascii " TOT=") q
 rangeWord range.Under q = ascii " TOT=UL" ∷ []
 rangeWord range.Over q = ascii " TOT=OL" ∷ []
 
-unfoldable pub totalWords : Total → ℤ → List (List ℕ)
-totalWords t base = named (ascii " SUM=") (t .sum) ++ rangeWord (t .range) (quotientOf (t .sum) base)
+unfoldable pub totalWords : Totalizer → Total → List (List ℕ)
+totalWords s t = named (ascii " SUM=") (t .sum) ++ rangeWord (t .range) (quotientOf s (t .sum))
 
 -- ---- the buffer, without the EE at its end
 
@@ -105,8 +109,8 @@ extremeWords max min =
     ((readingWord (ascii " MAX=") (extremes.shown max) ++ readingWord (ascii " MIN=") (extremes.shown min)) ++ counted (ascii " MR=") (max .run))
     ++ counted (ascii " NR=") (min .run)
 
-unfoldable pub measuredWords : Instrument → ℤ → List (List ℕ)
-measuredWords i base = (readingWord (ascii " R=") (i .reading) ++ totalWords (i .total) base) ++ extremeWords (i .max) (i .min)
+unfoldable pub measuredWords : Totalizer → Measured → List (List ℕ)
+measuredWords s m = (readingWord (ascii " R=") (m .reading) ++ totalWords s (m .total)) ++ extremeWords (m .max) (m .min)
 
 unfoldable pub setpointWords : List Alarm → List (List ℕ)
 setpointWords l =
@@ -132,18 +136,19 @@ unfoldable pub modeWords : Mode → List (List ℕ)
 modeWords Automatic = ascii " MODE=A MAN=0" ∷ []
 modeWords (Manual outputs) = counted (ascii " MODE=M MAN=") outputs
 
-unfoldable pub drivenWords : Instrument → List (List ℕ)
-drivenWords i = (alarmWords (i .alarms) ++ named (ascii " AO=") (i .code)) ++ modeWords (i .mode)
+unfoldable pub outputWords : Outputs → List (List ℕ)
+outputWords o = named (ascii " AO=") (o .code) ++ modeWords (o .mode)
 
 -- the half received string, or that it is too long
-unfoldable pub receivedWords : List ℕ → ℕ → List (List ℕ)
-receivedWords bytes length =
-    (ascii " RX=" ∷ []) ++ cond (ltb 32 length) (ascii "- RXO=1" ∷ []) (hex (take length bytes) ++ (ascii " RXO=0" ∷ []))
+unfoldable pub receivedWords : Receiver → List (List ℕ)
+receivedWords r =
+    (ascii " RX=" ∷ []) ++ cond (over (r .length)) (ascii "- RXO=1" ∷ []) (hex (take (r .length) (r .bytes)) ++ (ascii " RXO=0" ∷ []))
 
 unfoldable pub meterWords : Meter → List (List ℕ)
 meterWords m =
-    (measuredWords (m .instrument) (m .config .totalizer .«time_base») ++ drivenWords (m .instrument))
-    ++ receivedWords (m .receiver .bytes) (m .receiver .length)
+    ((measuredWords (m .config .working .totalizer) (m .instrument .measured) ++ alarmWords (m .instrument .alarms))
+    ++ outputWords (m .instrument .outputs))
+    ++ receivedWords (m .receiver)
 
 -- ---- the line of an event: the answer, the state, where the meter is started, and the buffer
 

@@ -7,20 +7,21 @@ mod show;
 
 ghost use Prim.Native.Nat.{ℕ};
 ghost use mathlib.Core.Path.{_≡_};
-ghost use mathlib.Core.Bool.{cond};
 ghost use mathlib.Core.List.{List};
-ghost use lib.Dec.{eqb};
 ghost use lib.ListN.{length};
-ghost use Rattle.text.specs.Line.{heard, Stands, Ran};
+ghost use Rattle.text.specs.Line.{heard, countAfter, Carried, stepped, finished};
 ghost use Rattle.text.specs.Output.{waiting, puts};
+ghost use Rattle.record.specs.Record.{wordCount};
 ghost use Rattle.record.specs.Configuration.{configOf};
-ghost use Rattle.replay.specs.Replay.{filled, powerStep, sampleStep, keyStep, byteStep, asPowered, asTold, effect, shownOf, stand, heardBy};
+ghost use Rattle.replay.specs.Replay.{filled, powerStep, sampleStep, keyStep, byteStep, asPowered, asTold, effect, shownOf, standing, heardBy};
 use answer::Answer;
 use libc::STDERR_FILENO;
 use libc::STDIN_FILENO;
 use meter::Meter;
 use meter::Outcome;
 use record::Event;
+use record::WORDS;
+use text::KEPT;
 use text::Step;
 use text::output::Out;
 
@@ -63,11 +64,11 @@ fn fill(buffer: &mut [u8])
     }
 }
 
-// A new meter of 73 settings, and its buffer filled anew.
-fn power_up(settings: &[i32; 73], buffer: &mut [u8]) -> Outcome
+// A new meter of a line's settings, and its buffer filled anew.
+fn power_up(settings: &[i32; WORDS], buffer: &mut [u8]) -> Outcome
     ensures { λ r. ⌜ r ≡ powerStep (configOf (now (settings .entry))) (now (buffer .entry)) .outcome ⌝ }
     ensures { λ _. ⌜ now (buffer .exit) ≡ powerStep (configOf (now (settings .entry))) (now (buffer .entry)) .buffer ⌝ }
-    ensures { λ _. ⌜ length (now (settings .entry)) ≡ 73 ⌝ }
+    ensures { λ _. ⌜ length (now (settings .entry)) ≡ wordCount ⌝ }
 {
     let config = record::config_of(settings);
     fill(buffer);
@@ -119,9 +120,9 @@ fn as_told(o: Outcome) -> Told
 // A whole line.
 fn event(
     m: Meter,
-    line: &[u8; 1024],
+    line: &[u8; KEPT],
     len: usize,
-    settings: &mut [i32; 73],
+    settings: &mut [i32; WORDS],
     buffer: &mut [u8],
 ) -> Told
     ensures { λ r. ⌜ r ≡ effect m (now (buffer .entry)) (heard (now (line .entry)) len) .told ⌝ }
@@ -155,15 +156,15 @@ fn put_said(buf: &mut [u8], o: Out, said: Said, m: Meter, buffer: &[u8]) -> Out
 
 // A line that has ended: its event, and its line of the output.
 fn answered(
-    line: &[u8; 1024],
+    line: &[u8; KEPT],
     len: usize,
-    settings: &mut [i32; 73],
+    settings: &mut [i32; WORDS],
     buffer: &mut [u8],
     buf: &mut [u8],
     s: State,
 ) -> State
     ensures { λ r. ⌜ r .len ≡ 0 ⌝ }
-    ensures { λ r. ⌜ stand (r .meter) (now (buffer .exit)) (waiting (r .out .at) (now (buf .exit))) ≡ heardBy (stand (s .meter) (now (buffer .entry)) (waiting (s .out .at) (now (buf .entry)))) (heard (now (line .entry)) len) ⌝ }
+    ensures { λ r. ⌜ standing r (now (buffer .exit)) (now (buf .exit)) ≡ heardBy (standing s (now (buffer .entry)) (now (buf .entry))) (heard (now (line .entry)) len) ⌝ }
 {
     let t = event(s.meter, line, len, settings, &mut *buffer);
     let said = t.said;
@@ -174,15 +175,15 @@ fn answered(
 
 // After a step of the line: the event, where it ended.
 fn stepped(
-    line: &[u8; 1024],
-    settings: &mut [i32; 73],
+    line: &[u8; KEPT],
+    settings: &mut [i32; WORDS],
     buffer: &mut [u8],
     buf: &mut [u8],
     s: State,
     f: Step,
 ) -> State
-    ensures { λ r. ⌜ r .len ≡ cond (f .ended) 0 (f .len) ⌝ }
-    ensures { λ r. ⌜ stand (r .meter) (now (buffer .exit)) (waiting (r .out .at) (now (buf .exit))) ≡ cond (f .ended) (heardBy (stand (s .meter) (now (buffer .entry)) (waiting (s .out .at) (now (buf .entry)))) (heard (now (line .entry)) (f .len))) (stand (s .meter) (now (buffer .entry)) (waiting (s .out .at) (now (buf .entry)))) ⌝ }
+    ensures { λ r. ⌜ r .len ≡ countAfter f ⌝ }
+    ensures { λ r. ⌜ standing r (now (buffer .exit)) (now (buf .exit)) ≡ stepped heardBy (standing s (now (buffer .entry)) (now (buf .entry))) (now (line .entry)) f ⌝ }
 {
     if f.ended {
         return answered(line, f.len, settings, buffer, buf, s);
@@ -195,14 +196,13 @@ fn stepped(
 // The lines that a block ends, and the start of the one that it leaves open.
 fn lines(
     block: &[u8],
-    line: &mut [u8; 1024],
-    settings: &mut [i32; 73],
+    line: &mut [u8; KEPT],
+    settings: &mut [i32; WORDS],
     buffer: &mut [u8],
     buf: &mut [u8],
     s: State,
 ) -> State
-    ensures { λ r. ⌜ ((l : List ℕ) → Stands l (now (line .entry)) (s .len)
-        → Ran heardBy (now (block .entry)) l (stand (s .meter) (now (buffer .entry)) (waiting (s .out .at) (now (buf .entry)))) (stand (r .meter) (now (buffer .exit)) (waiting (r .out .at) (now (buf .exit)))) (now (line .exit)) (r .len)) ⌝ }
+    ensures { λ r. ⌜ Carried heardBy (now (block .entry)) (now (line .entry)) (s .len) (standing s (now (buffer .entry)) (now (buf .entry))) (standing r (now (buffer .exit)) (now (buf .exit))) (now (line .exit)) (r .len) ⌝ }
 {
     let mut t = s;
     let mut at = 0;
@@ -217,8 +217,8 @@ fn lines(
 // Reads once, and does what came. A read that fails ends the input, and so does a write that fails.
 fn one_turn(
     block: &mut [u8],
-    line: &mut [u8; 1024],
-    settings: &mut [i32; 73],
+    line: &mut [u8; KEPT],
+    settings: &mut [i32; WORDS],
     buffer: &mut [u8],
     buf: &mut [u8],
     s: State,
@@ -248,13 +248,13 @@ fn one_turn(
 
 // A last line that no LF ends counts, where it has a byte.
 fn end(
-    line: &[u8; 1024],
-    settings: &mut [i32; 73],
+    line: &[u8; KEPT],
+    settings: &mut [i32; WORDS],
     buffer: &mut [u8],
     buf: &mut [u8],
     s: State,
 ) -> State
-    ensures { λ r. ⌜ stand (r .meter) (now (buffer .exit)) (waiting (r .out .at) (now (buf .exit))) ≡ cond (eqb (s .len) 0) (stand (s .meter) (now (buffer .entry)) (waiting (s .out .at) (now (buf .entry)))) (heardBy (stand (s .meter) (now (buffer .entry)) (waiting (s .out .at) (now (buf .entry)))) (heard (now (line .entry)) (s .len))) ⌝ }
+    ensures { λ r. ⌜ standing r (now (buffer .exit)) (now (buf .exit)) ≡ finished heardBy (standing s (now (buffer .entry)) (now (buf .entry))) (now (line .entry)) (s .len) ⌝ }
 {
     if s.len == 0 {
         return s;
@@ -266,8 +266,8 @@ fn end(
 // run uses up: at a turn each nanosecond it would take more than five hundred years.
 fn run(
     block: &mut [u8],
-    line: &mut [u8; 1024],
-    settings: &mut [i32; 73],
+    line: &mut [u8; KEPT],
+    settings: &mut [i32; WORDS],
     buffer: &mut [u8],
     buf: &mut [u8],
     s: State,
@@ -291,20 +291,20 @@ fn run(
     t.state
 }
 
-// A meter not started: a configuration of zeros is refused.
-fn not_started(settings: &[i32; 73]) -> Meter {
-    let o = Meter::power_up(record::config_of(settings));
+// A meter not started: a configuration with nothing in it is refused.
+fn not_started() -> Meter {
+    let o = Meter::power_up(config::nothing());
     o.meter
 }
 
 fn main() {
     let mut block = io::large_buffer();
-    let mut line = [0u8; 1024];
-    let mut settings = [0i32; 73];
+    let mut line = [0u8; KEPT];
+    let mut settings = [0i32; WORDS];
     let mut buffer = [238u8; 170];
     let mut buf = io::large_buffer();
     let begun = State {
-        meter: not_started(&settings),
+        meter: not_started(),
         len: 0,
         out: Out { at: 0, ok: true },
     };

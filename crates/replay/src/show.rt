@@ -5,18 +5,21 @@ ghost use lib.IntN.{natAbs};
 ghost use mathlib.Core.List.{[], _∷_};
 ghost use lib.ListN.{length, take};
 ghost use Rattle.text.specs.Output.{waiting, puts};
-ghost use Rattle.replay.specs.Show.{numeral, signed, named, counted, hexByte, hex, answerPieces, powerLine, readingWord, quotientOf, totalWords, trimmed, bufferWords, extremeWords, measuredWords, setpointWords, onDigit, stateWords, runWords, alarmWords, modeWords, drivenWords, receivedWords, meterWords, isNotStarted, eventLine};
+ghost use Rattle.replay.specs.Show.{numeral, signed, named, counted, hexByte, hex, answerPieces, powerLine, readingWord, quotientOf, totalWords, trimmed, bufferWords, extremeWords, measuredWords, setpointWords, onDigit, stateWords, runWords, alarmWords, modeWords, outputWords, receivedWords, meterWords, isNotStarted, eventLine};
 use alarm::Alarm;
 use answer::Answer;
 use extremes::Extreme;
-use instrument::Instrument;
-use instrument::Mode;
+use measured::Measured;
 use meter::Meter;
+use outputs::Mode;
+use outputs::Outputs;
 use reading::Reading;
+use receiver::Receiver;
 use text::output::Out;
 use text::output::put;
 use total::Range;
 use total::Total;
+use total::Totalizer;
 
 // The size of a signed number, also of the least one, whose size has no sign that fits.
 fn size_of(z: i64) -> u64
@@ -115,22 +118,22 @@ fn put_reading(buf: &mut [u8], o: Out, name: &[u8], reading: Reading) -> Out
 }
 
 // The total of a sum, where the time base is one that can be.
-fn quotient(sum: i64, time_base: i32) -> i64
-    ensures { λ r. ⌜ r ≡ quotientOf sum «time_base» ⌝ }
+fn quotient(s: Totalizer, sum: i64) -> i64
+    ensures { λ r. ⌜ r ≡ quotientOf s sum ⌝ }
 {
-    if time_base < 1 {
+    if s.time_base < 1 {
         return 0;
     }
-    exact::cut(sum, 20000 * time_base as i64)
+    exact::cut(sum, 20000 * s.time_base as i64)
 }
 
-fn put_total(buf: &mut [u8], o: Out, t: Total, time_base: i32) -> Out
-    ensures { λ r. ⌜ waiting (r .at) (now (buf .exit)) ≡ puts (waiting (o .at) (now (buf .entry))) (totalWords t «time_base») ⌝ }
+fn put_total(buf: &mut [u8], o: Out, s: Totalizer, t: Total) -> Out
+    ensures { λ r. ⌜ waiting (r .at) (now (buf .exit)) ≡ puts (waiting (o .at) (now (buf .entry))) (totalWords s t) ⌝ }
 {
     let p = put_named(&mut *buf, o, b" SUM=", t.sum);
     let range = t.range;
     match range {
-        Range::Within => put_named(&mut *buf, p, b" TOT=", quotient(t.sum, time_base)),
+        Range::Within => put_named(&mut *buf, p, b" TOT=", quotient(s, t.sum)),
         Range::Under => put(&mut *buf, p, b" TOT=UL"),
         Range::Over => put(&mut *buf, p, b" TOT=OL"),
     }
@@ -208,39 +211,38 @@ fn put_mode(buf: &mut [u8], o: Out, mode: Mode) -> Out
 }
 
 // What was measured: reading, total, max and min.
-fn put_measured(buf: &mut [u8], o: Out, i: Instrument, time_base: i32) -> Out
-    ensures { λ r. ⌜ waiting (r .at) (now (buf .exit)) ≡ puts (waiting (o .at) (now (buf .entry))) (measuredWords i «time_base») ⌝ }
+fn put_measured(buf: &mut [u8], o: Out, s: Totalizer, m: Measured) -> Out
+    ensures { λ r. ⌜ waiting (r .at) (now (buf .exit)) ≡ puts (waiting (o .at) (now (buf .entry))) (measuredWords s m) ⌝ }
 {
-    let reading = i.reading;
-    let total = i.total;
-    let max = i.max;
-    let min = i.min;
+    let reading = m.reading;
+    let total = m.total;
+    let max = m.max;
+    let min = m.min;
     let p = put_reading(&mut *buf, o, b" R=", reading);
-    let q = put_total(&mut *buf, p, total, time_base);
+    let q = put_total(&mut *buf, p, s, total);
     put_extremes(&mut *buf, q, max, min)
 }
 
-// What is driven: alarms, analog code, mode.
-fn put_driven(buf: &mut [u8], o: Out, i: Instrument) -> Out
-    ensures { λ r. ⌜ waiting (r .at) (now (buf .exit)) ≡ puts (waiting (o .at) (now (buf .entry))) (drivenWords i) ⌝ }
+// How the outputs are driven: analog code, mode.
+fn put_outputs(buf: &mut [u8], o: Out, outputs: Outputs) -> Out
+    ensures { λ r. ⌜ waiting (r .at) (now (buf .exit)) ≡ puts (waiting (o .at) (now (buf .entry))) (outputWords outputs) ⌝ }
 {
-    let alarms = i.alarms;
-    let mode = i.mode;
-    let p = put_alarms(&mut *buf, o, alarms);
-    let q = put_signed(&mut *buf, p, b" AO=", i.code);
-    put_mode(&mut *buf, q, mode)
+    let mode = outputs.mode;
+    let p = put_signed(&mut *buf, o, b" AO=", outputs.code);
+    put_mode(&mut *buf, p, mode)
 }
 
 // The half received string, or that it is too long.
-fn put_received(buf: &mut [u8], o: Out, bytes: &[u8; 32], length: usize) -> Out
-    ensures { λ r. ⌜ waiting (r .at) (now (buf .exit)) ≡ puts (waiting (o .at) (now (buf .entry))) (receivedWords (now (bytes .entry)) length) ⌝ }
+fn put_received(buf: &mut [u8], o: Out, held: Receiver) -> Out
+    ensures { λ r. ⌜ waiting (r .at) (now (buf .exit)) ≡ puts (waiting (o .at) (now (buf .entry))) (receivedWords held) ⌝ }
 {
-    let held: &[u8] = bytes;
+    let length = held.length;
+    let bytes: &[u8] = &held.bytes;
     let p = put(&mut *buf, o, b" RX=");
-    if held.len() < length {
+    if receiver::is_over(length) {
         return put(&mut *buf, p, b"- RXO=1");
     }
-    let q = put_hex(&mut *buf, p, &held[0..length]);
+    let q = put_hex(&mut *buf, p, &bytes[0..length]);
     put(&mut *buf, q, b" RXO=0")
 }
 
@@ -288,13 +290,17 @@ pub fn put_power_up(buf: &mut [u8], o: Out, a: Answer) -> Out
 fn put_state(buf: &mut [u8], o: Out, m: Meter) -> Out
     ensures { λ r. ⌜ waiting (r .at) (now (buf .exit)) ≡ puts (waiting (o .at) (now (buf .entry))) (meterWords m) ⌝ }
 {
-    let config = m.config;
-    let totalizer = config.totalizer;
+    let working = m.config.working;
+    let totalizer = working.totalizer;
     let instrument = m.instrument;
+    let measured = instrument.measured;
+    let alarms = instrument.alarms;
+    let outputs = instrument.outputs;
     let receiver = m.receiver;
-    let p = put_measured(&mut *buf, o, instrument, totalizer.time_base);
-    let q = put_driven(&mut *buf, p, instrument);
-    put_received(&mut *buf, q, &receiver.bytes, receiver.length)
+    let p = put_measured(&mut *buf, o, totalizer, measured);
+    let q = put_alarms(&mut *buf, p, alarms);
+    let r = put_outputs(&mut *buf, q, outputs);
+    put_received(&mut *buf, r, receiver)
 }
 
 // Whether the meter is not started, and so has no state to show.

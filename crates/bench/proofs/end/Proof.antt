@@ -1,18 +1,15 @@
 -- `bench::end` meets its contract: a line of no bytes is no line. Assumes nothing.
 use borrow.Author.Needs.{needs}
 use mathlib.Core.Path.{_∙_}
-use borrow.Author.Tests.{eq-eqb, ne-eqb}
-use Rattle.text.specs.Line.{heard}
+use Rattle.text.proofs.Streams.{last-none, last-line}
 use Rattle.bench.specs.Bench.{stand, heardBy}
-use Rattle.bench.proofs.Stream.{picked, passed}
 use Rattle.bench.proofs.end.Statement.{statement}
 use Rattle.bench.proofs.end.Tie as tie
 
 returns : tie.Need-returns
 returns c =
     let a = c .before .before .before .before .args in
-    let s = stand (a .s .meter) (a .reply .now) in
-    picked s (heardBy s (heard (a .line .now) (a .s .len))) (eq-eqb (a .s .len) 0 (c .if1 .taken))
+    last-none heardBy (stand (a .s .meter) (a .reply .now)) (a .line .now) (a .s .len) (c .if1 .taken)
 
 answered-requires : tie.Need-answered-requires
 answered-requires c κs = search needs
@@ -26,9 +23,8 @@ same-length-2 c = search needs
 returns-2 : tie.Need-returns-2
 returns-2 c =
     let a = c .before .before .before .before .before .before .before .before .before .before .before .args in
-    let s = stand (a .s .meter) (a .reply .now) in
     c .before .before .before .before .answered .ensures .1
-    ∙ passed s (heardBy s (heard (a .line .now) (a .s .len))) (ne-eqb (a .s .len) 0 (c .before .before .before .before .before .before .before .if1 .left))
+    ∙ last-line heardBy (stand (a .s .meter) (a .reply .now)) (a .line .now) (a .s .len) (c .before .before .before .before .before .before .before .if1 .left)
 
 pub end-spec : {M : Type 1} → statement M
 end-spec = tie.close (tie.spec returns answered-requires same-length same-length-2 returns-2)

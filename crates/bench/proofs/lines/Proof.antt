@@ -2,13 +2,12 @@
 -- Assumes nothing.
 use borrow.Author.Needs.{needs}
 use native.Mathlib.Omega.{arith}
-use mathlib.Core.Path.{_≡_, refl, subst, _∙_}
-use Prim.Native.Nat.{ℕ, _≤_, _-_}
-use mathlib.Core.List.{List}
+use mathlib.Core.Path.{_≡_, refl, _∙_}
+use Prim.Native.Nat.{_≤_, _-_}
 use lib.ListN.{length}
-use Rattle.text.specs.Line.{Used, Stands}
-use Rattle.text.proofs.Laws.{length-rest}
-use Rattle.text.proofs.Streams.{Reached, begins, steps, ends}
+use Rattle.text.specs.Line.{Used}
+use Rattle.text.proofs.Laws.{ahead}
+use Rattle.text.proofs.Streams.{Reaches, begins, turns, ends}
 use Rattle.bench.specs.Bench.{stand, heardBy}
 use Rattle.bench.proofs.lines.Statement.{statement}
 use Rattle.bench.proofs.lines.Tie as tie
@@ -16,13 +15,13 @@ use Rattle.bench.proofs.lines.Tie as tie
 abbrev Inv-loop : tie.InvT-loop
 Inv-loop block line₀ reply₀ buf₀ t₀ at₀ line reply buf t at =
     (at ≤ length block) × (length reply ≡ length reply₀) × (length buf ≡ length buf₀)
-    × ((l : List ℕ) → Stands l line₀ (t₀ .len) → Reached heardBy block l (stand (t₀ .meter) reply₀) (stand (t .meter) reply) line (t .len) at)
+    × Reaches heardBy block line₀ (t₀ .len) (stand (t₀ .meter) reply₀) (stand (t .meter) reply) line (t .len) at
 
 abbrev μ-loop : tie.MeasureT-loop
 μ-loop block line₀ reply₀ buf₀ t₀ at₀ line reply buf t at = length block - at
 
 loop-holds : tie.Need-loop-holds Inv-loop μ-loop
-loop-holds c = (search needs, refl, refl, λ l h. begins heardBy _ l _ _ _ h)
+loop-holds c = (search needs, refl, refl, begins heardBy _ _ _ _)
 
 sub-feed : tie.Need-sub-feed Inv-loop μ-loop
 sub-feed c = omega arith
@@ -36,38 +35,33 @@ part-feed-end c = search needs
 feed-requires : tie.Need-feed-requires Inv-loop μ-loop
 feed-requires c κs = search needs
 
-abbrev block : tie.After-struct-known Inv-loop μ-loop → List ℕ
-block c = c .before .before .before .before .before .before .before .before .before .args .block .now
-
-abbrev at : tie.After-struct-known Inv-loop μ-loop → ℕ
-at c = c .before .before .before .before .before .loop .at
-
--- what is left of the block is read on
-ahead : (c : tie.After-struct-known Inv-loop μ-loop) → Used (c .before .feed .result .used) (length (block c) - at c)
-ahead c = subst (Used (c .before .feed .result .used)) (length-rest (at c) (block c)) (c .before .feed .ensures .1 .1)
+-- the step goes on in the block
+read-on : (c : tie.After-struct-known Inv-loop μ-loop)
+    → Used (c .before .feed .result .used) (length (c .before .before .before .before .before .before .before .before .before .args .block .now) - c .before .before .before .before .before .loop .at)
+read-on c =
+    ahead (c .before .before .before .before .before .before .before .before .before .args .block .now) (c .before .before .before .before .before .loop .at)
+    (c .before .feed .ensures .1 .1)
 
 add-at : tie.Need-add-at Inv-loop μ-loop
-add-at c = omega (arith, ahead c)
+add-at c = omega (arith, read-on c)
 
 stepped-requires : tie.Need-stepped-requires Inv-loop μ-loop
 stepped-requires c κs = search needs
 
 loop-less : tie.Need-loop-less Inv-loop μ-loop
 loop-less c =
-    let u = ahead (c .before .before .before .before .before .before .before .before) in
+    let u = read-on (c .before .before .before .before .before .before .before .before) in
     omega (arith, u .on (omega arith))
 
 loop-again : tie.Need-loop-again Inv-loop μ-loop
 loop-again c =
-    let a = c .before .before .before .before .before .before .before .before .before .before .before .before .before .before .before .before .before .args in
     let l = c .before .before .before .before .before .before .before .before .before .before .before .before .before .loop in
-    let f = c .before .before .before .before .before .before .before .before .before .feed in
-    let s = c .before .before .before .before .stepped in (
-      omega (arith, ahead (c .before .before .before .before .before .before .before .before)),
+    let f = c .before .before .before .before .before .before .before .before .before .feed .ensures in
+    let s = c .before .before .before .before .stepped .ensures in (
+      omega (arith, read-on (c .before .before .before .before .before .before .before .before)),
       c .before .before .before .reply .given ∙ l .inv .1,
       c .before .buf .given ∙ l .inv .2,
-      λ x h. steps heardBy (a .block .now) x (stand (a .s .meter) (a .reply .now)) (stand (l .t .meter) (l .reply)) (l .line) (l .t .len) (l .at) (l .inv .3 x h)
-          (f .result) (f .last .0) _ (s .result .len) (f .ensures .0) (f .ensures .1 .0) (s .ensures .0) (s .ensures .1),
+      turns heardBy (l .inv .3) (f .0) (f .1 .0) (s .0) (s .1),
     )
 
 same-length : tie.Need-same-length Inv-loop μ-loop
@@ -77,9 +71,7 @@ same-length-2 : tie.Need-same-length-2 Inv-loop μ-loop
 same-length-2 c = c .before .loop .inv .2
 
 returns : tie.Need-returns Inv-loop μ-loop
-returns c =
-    let l = c .before .loop in
-    λ x h. ends heardBy _ x _ _ _ _ (l .at) (omega arith) (l .inv .3 x h)
+returns c = ends heardBy (omega arith) (c .before .loop .inv .3)
 
 pub lines-spec : {M : Type 1} → statement M
 lines-spec =

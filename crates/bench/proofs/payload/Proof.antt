@@ -4,7 +4,7 @@ use mathlib.Core.Path.{ap, _∙_}
 use mathlib.Core.List.{List}
 use Prim.Native.Nat.{ℕ}
 use Rattle.bench.specs.Bench.{bytesStep}
-use Rattle.bench.proofs.Stream.{part}
+use Rattle.text.proofs.Laws.{part}
 use Rattle.bench.proofs.payload.Statement.{statement}
 use Rattle.bench.proofs.payload.Tie as tie
 

@@ -1,12 +1,10 @@
 -- `cost::lines` is safe and ends: each turn reads on in the block. Assumes nothing.
 use borrow.Author.Needs.{needs}
 use native.Mathlib.Omega.{arith}
-use mathlib.Core.Path.{_≡_, subst}
-use Prim.Native.Nat.{ℕ, _≤_, _-_}
-use mathlib.Core.List.{List}
+use Prim.Native.Nat.{_≤_, _-_}
 use lib.ListN.{length}
 use Rattle.text.specs.Line.{Used}
-use Rattle.text.proofs.Laws.{length-rest}
+use Rattle.text.proofs.Laws.{ahead}
 use Rattle.cost.proofs.lines.Statement.{statement}
 use Rattle.cost.proofs.lines.Tie as tie
 
@@ -31,27 +29,24 @@ part-feed-end c = search needs
 feed-requires : tie.Need-feed-requires Inv-loop μ-loop
 feed-requires c κs = search needs
 
-abbrev block : tie.After-struct-known Inv-loop μ-loop → List ℕ
-block c = c .before .before .before .before .before .before .before .args .block .now
-
-abbrev at : tie.After-struct-known Inv-loop μ-loop → ℕ
-at c = c .before .before .before .before .before .loop .at
-
--- what is left of the block is read on
-ahead : (c : tie.After-struct-known Inv-loop μ-loop) → Used (c .before .feed .result .used) (length (block c) - at c)
-ahead c = subst (Used (c .before .feed .result .used)) (length-rest (at c) (block c)) (c .before .feed .ensures .1 .1)
+-- the step goes on in the block
+read-on : (c : tie.After-struct-known Inv-loop μ-loop)
+    → Used (c .before .feed .result .used) (length (c .before .before .before .before .before .before .before .args .block .now) - c .before .before .before .before .before .loop .at)
+read-on c =
+    ahead (c .before .before .before .before .before .before .before .args .block .now) (c .before .before .before .before .before .loop .at)
+    (c .before .feed .ensures .1 .1)
 
 add-at : tie.Need-add-at Inv-loop μ-loop
-add-at c = omega (arith, ahead c)
+add-at c = omega (arith, read-on c)
 
 stepped-requires : tie.Need-stepped-requires Inv-loop μ-loop
 stepped-requires c κs = search needs
 
 loop-less : tie.Need-loop-less Inv-loop μ-loop
-loop-less c = let u = ahead (c .before .before) in omega (arith, u .on (omega arith))
+loop-less c = let u = read-on (c .before .before) in omega (arith, u .on (omega arith))
 
 loop-again : tie.Need-loop-again Inv-loop μ-loop
-loop-again c = omega (arith, ahead (c .before .before))
+loop-again c = omega (arith, read-on (c .before .before))
 
 returns : tie.Need-returns Inv-loop μ-loop
 returns c = search needs

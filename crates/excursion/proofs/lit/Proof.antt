@@ -5,17 +5,17 @@ use native.Mathlib.Numerals.{add-one}
 use mathlib.Core.Path.{_≡_, ap, _∙_}
 use mathlib.Core.List.{[]}
 use Prim.Native.Nat.{_≤_, _-_}
-use Rattle.instrument.specs.Instrument.{alarmAt}
+use Rattle.alarms.specs.Alarms.{alarmAt}
 use Rattle.meter.specs.Meter.{poweredUp}
 use Rattle.meter.specs.declared.Meter.{Meter}
 use Rattle.meter.specs.declared.Outcome.{Outcome}
-use Rattle.looking.specs.History.{run}
+use Rattle.looking.specs.History.{meterAfter}
 use Rattle.looking.specs.Polls.{bench, excursion}
 use Rattle.excursion.proofs.lit.Statement.{statement}
 use Rattle.excursion.proofs.lit.Tie as tie
 
 abbrev Inv-loop : tie.InvT-loop
-Inv-loop times below m₀ i₀ m i = (i ≤ below) × (m ≡ run bench (excursion times i))
+Inv-loop times below m₀ i₀ m i = (i ≤ below) × (m ≡ meterAfter bench (excursion times i))
 
 abbrev μ-loop : tie.MeasureT-loop
 μ-loop times below m₀ i₀ m i = below - i

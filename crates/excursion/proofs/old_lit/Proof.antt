@@ -17,8 +17,8 @@ use Rattle.excursion.proofs.old_lit.Statement.{statement}
 use Rattle.excursion.proofs.old_lit.Tie as tie
 
 -- an input of 60 reads 120, one of 40 reads 80
-read-as : (read bench (pos 60) ≡ Number (pos 120)) × (read bench (pos 40) ≡ Number (pos 80))
-unfolding readings.readingOf readings.displayed readings.judged readings.line readings.segment readings.firstFrom halfUp nearest toStep
+read-as : (read (bench .scale) (pos 60) ≡ Number (pos 120)) × (read (bench .scale) (pos 40) ≡ Number (pos 80))
+unfolding readings.readingOf readings.displayed readings.judged readings.onLine readings.segment readings.firstFrom halfUp nearest toStep
 read-as = (refl, refl)
 
 abbrev Inv-loop : tie.InvT-loop

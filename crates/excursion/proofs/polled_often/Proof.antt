@@ -4,13 +4,13 @@ use native.Mathlib.Omega.{arith}
 use native.Mathlib.Numerals.{add-one}
 use mathlib.Core.Path.{_≡_}
 use Prim.Native.Nat.{_≤_, _-_}
-use Rattle.looking.specs.History.{History, run}
+use Rattle.looking.specs.History.{History, meterAfter}
 use Rattle.looking.specs.Polls.{polls, bench, asking}
 use Rattle.excursion.proofs.polled_often.Statement.{statement}
 use Rattle.excursion.proofs.polled_often.Tie as tie
 
 abbrev Inv-loop : tie.InvT-loop
-Inv-loop times after₀ i₀ after i = (i ≤ times) × ((h : History) → after₀ ≡ run bench h → after ≡ run bench (polls asking i h))
+Inv-loop times after₀ i₀ after i = (i ≤ times) × ((h : History) → after₀ ≡ meterAfter bench h → after ≡ meterAfter bench (polls asking i h))
 
 abbrev μ-loop : tie.MeasureT-loop
 μ-loop times after₀ i₀ after i = times - i

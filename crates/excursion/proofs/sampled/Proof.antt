@@ -7,13 +7,13 @@ use mir.Facts.{toZ-ofZ}
 use Rattle.meter.specs.Meter as meters
 use Rattle.meter.specs.declared.Meter.{Meter}
 use Rattle.meter.specs.declared.Outcome.{Outcome}
-use Rattle.looking.specs.History.{History, sample, run}
+use Rattle.looking.specs.History.{History, sample, meterAfter}
 use Rattle.looking.specs.Polls.{bench}
 use Rattle.excursion.proofs.sampled.Statement.{statement}
 use Rattle.excursion.proofs.sampled.Tie as tie
 
 -- what the public call gives back is what the history with the sample leaves
-behind : (h : History) (m : Meter) (x : ℤ) (o : Outcome) → o ≡ meters.sampled m x → m ≡ run bench h → o .meter ≡ run bench (sample x ∷ h)
+behind : (h : History) (m : Meter) (x : ℤ) (o : Outcome) → o ≡ meters.sampled m x → m ≡ meterAfter bench h → o .meter ≡ meterAfter bench (sample x ∷ h)
 behind h m x o p e = ap (λ (q : Outcome). q .meter) p ∙ ap (λ (n : Meter). meters.sampled n x .meter) e
 
 sample-requires : tie.Need-sample-requires

@@ -1,10 +1,8 @@
 -- `replay::stepped` meets its contract: there is an event just where the line ended. Assumes nothing.
 use borrow.Author.Needs.{needs}
 use mathlib.Core.Path.{_∙_}
-use Rattle.text.specs.Line.{heard}
-use Rattle.text.specs.Output.{waiting}
-use Rattle.replay.specs.Replay.{stand, heardBy}
-use Rattle.replay.proofs.Stream.{picked, passed}
+use Rattle.text.proofs.Streams.{step-ended, step-open}
+use Rattle.replay.specs.Replay.{standing, heardBy}
 use Rattle.replay.proofs.stepped.Statement.{statement}
 use Rattle.replay.proofs.stepped.Tie as tie
 
@@ -20,16 +18,14 @@ same-length-2 c = search needs
 returns : tie.Need-returns
 returns c =
     let a = c .before .before .before .before .before .before .before .before .before .before .before .args in
-    let s = stand (a .s .meter) (a .buffer .now) (waiting (a .s .out .at) (a .buf .now)) in
-    let y = c .before .before .before .before .before .before .before .before .if1 .taken in
+    let y = step-ended heardBy (standing (a .s) (a .buffer .now) (a .buf .now)) (a .line .now) (a .f) (c .before .before .before .before .before .before .before .before .if1 .taken) in
     let e = c .before .before .before .before .answered .ensures in
-    (e .0 ∙ picked 0 (a .f .len) y, e .1 ∙ picked (heardBy s (heard (a .line .now) (a .f .len))) s y)
+    (e .0 ∙ y .0, e .1 ∙ y .1)
 
 returns-2 : tie.Need-returns-2
 returns-2 c =
     let a = c .before .before .before .args in
-    let s = stand (a .s .meter) (a .buffer .now) (waiting (a .s .out .at) (a .buf .now)) in
-    (passed 0 (a .f .len) (c .if1 .left), passed (heardBy s (heard (a .line .now) (a .f .len))) s (c .if1 .left))
+    step-open heardBy (standing (a .s) (a .buffer .now) (a .buf .now)) (a .line .now) (a .f) (c .if1 .left)
 
 pub stepped-spec : {M : Type 1} → statement M
 stepped-spec = tie.close (tie.spec answered-requires same-length same-length-2 returns returns-2)

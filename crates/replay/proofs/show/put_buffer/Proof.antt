@@ -1,7 +1,7 @@
 -- `replay::show::put_buffer` meets its contract: what is shown of the buffer ends before the EE at its end. Assumes nothing.
 use mathlib.Core.Path.{ap, _∙_}
 use mathlib.Core.List.{[], _∷_}
-use Rattle.record.proofs.Said.{first}
+use Rattle.text.proofs.Laws.{part}
 use Rattle.register.specs.Bytes.{ascii}
 use Rattle.replay.specs.Show.{hex, trimmed, bufferWords}
 use Rattle.replay.proofs.Pieces.{one, next, alike}
@@ -46,7 +46,7 @@ returns c =
     let n = c .before .before .before .before .before .before .before .before .before .before .before .before .before .before .before .filled in
     next _ _ _ (ascii " BUF=" ∷ hex (trimmed s)) ((10 ∷ []) ∷ [])
     (next _ _ _ (ascii " BUF=" ∷ []) (hex (trimmed s)) (one _ _ _ (c .before .before .before .before .before .before .before .before .before .before .before .before .put .ensures))
-    (alike _ _ _ _ (ap hex (first (n .result) s ∙ n .ensures .1)) (c .before .before .before .before .before .before .before .put-hex .ensures)))
+    (alike _ _ _ _ (ap hex (part 0 (n .result) s ∙ n .ensures .1)) (c .before .before .before .before .before .before .before .put-hex .ensures)))
     (one _ _ _ (c .before .before .put2 .ensures))
 
 pub put-buffer-spec : {M : Type 1} → statement M

@@ -1,10 +1,8 @@
 -- `replay::show::put_measured` meets its contract: the pieces are put one after another. Assumes nothing.
-use mathlib.Core.Path.{ap}
 use mathlib.Core.List.{_++_}
-use mir.Facts.{toZ-ofZ}
 use Rattle.register.specs.Bytes.{ascii}
 use Rattle.replay.specs.Show.{readingWord, totalWords, extremeWords, measuredWords}
-use Rattle.replay.proofs.Pieces.{next, alike}
+use Rattle.replay.proofs.Pieces.{next}
 use borrow.Author.Needs.{needs}
 use Rattle.replay.proofs.show.put_measured.Statement.{statement}
 use Rattle.replay.proofs.show.put_measured.Tie as tie
@@ -27,11 +25,12 @@ same-length c = search needs
 returns : tie.Need-returns
 unfolding measuredWords
 returns c =
-    let s = c .before .before .before .before .before .before .before .before .before .before .before .before .before .before .before .before .before in
-    let i = s .args .i in
-    (next _ _ _ ((readingWord (ascii " R=") (i .reading)) ++ (totalWords (i .total) (s .args .time-base))) (extremeWords (i .max) (i .min)) (next _ _ _ (readingWord (ascii " R=") (i .reading)) (totalWords (i .total) (s .args .time-base)) (c .before .before .before .before .before .before .before .before .before .before .put-reading .ensures)
-    (alike _ _ _ _ (ap (totalWords (i .total)) (toZ-ofZ (s .fits .time-base))) (c .before .before .before .before .before .before .put-total .ensures)))
-    (c .before .before .put-extremes .ensures))
+    let a = c .before .before .before .before .before .before .before .before .before .before .before .before .before .before .before .before .before .args in
+    let first = readingWord (ascii " R=") (a .m .reading) in
+    let second = totalWords (a .s) (a .m .total) in
+    next _ _ _ (first ++ second) (extremeWords (a .m .max) (a .m .min))
+    (next _ _ _ first second (c .before .before .before .before .before .before .before .before .before .before .put-reading .ensures) (c .before .before .before .before .before .before .put-total .ensures))
+    (c .before .before .put-extremes .ensures)
 
 pub put-measured-spec : {M : Type 1} → statement M
 put-measured-spec =

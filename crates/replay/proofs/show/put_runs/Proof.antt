@@ -1,7 +1,7 @@
 -- `replay::show::put_runs` meets its contract: the pieces are put one after another. Assumes nothing.
 use mathlib.Core.List.{_++_}
 use Rattle.register.specs.Bytes.{ascii}
-use Rattle.instrument.specs.Instrument.{alarmAt}
+use Rattle.alarms.specs.Alarms.{alarmAt}
 use Rattle.replay.specs.Show.{counted, runWords}
 use Rattle.replay.proofs.Pieces.{next}
 use borrow.Author.Needs.{needs}

@@ -3,7 +3,7 @@ use mathlib.Core.Path.{ap}
 use mathlib.Core.List.{_++_}
 use Rattle.exact.proofs.Z.{back32}
 use Rattle.register.specs.Bytes.{ascii}
-use Rattle.instrument.specs.Instrument.{alarmAt}
+use Rattle.alarms.specs.Alarms.{alarmAt}
 use Rattle.replay.specs.Show.{named, setpointWords}
 use Rattle.replay.proofs.Pieces.{next, alike}
 use borrow.Author.Needs.{needs}

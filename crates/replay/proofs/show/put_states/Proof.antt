@@ -1,7 +1,7 @@
 -- `replay::show::put_states` meets its contract: a digit for each alarm. Assumes nothing.
 use mathlib.Core.List.{[], _∷_}
 use Rattle.register.specs.Bytes.{ascii}
-use Rattle.instrument.specs.Instrument.{alarmAt}
+use Rattle.alarms.specs.Alarms.{alarmAt}
 use Rattle.replay.specs.Show.{onDigit, stateWords}
 use Rattle.replay.proofs.Pieces.{one, next}
 use borrow.Author.Needs.{needs}

@@ -1,6 +1,5 @@
 -- `replay::show::put_total` meets its contract: the arm says which range it is. Assumes nothing.
-use mathlib.Core.Path.{sym, ap, ap₂, _∙_}
-use mir.Facts.{toZ-ofZ}
+use mathlib.Core.Path.{sym, ap, _∙_}
 use Rattle.exact.proofs.Z.{back64}
 use Rattle.register.specs.Bytes.{ascii}
 use Rattle.total.specs.declared.Range.{Range}
@@ -52,15 +51,14 @@ same-length c = search needs
 returns : tie.Need-returns
 unfolding totalWords
 returns c =
-    let s = c .before .before .before .before .before .before .before .before .before .before .before .before .before .before .before .before in
-    let a = s .args in
+    let a = c .before .before .before .before .before .before .before .before .before .before .before .before .before .before .before .before .args in
     let e = back64 (a .t .sum) (c .before .before .before .before .before .before .before .before .before .before .before .before .struct-told .given .0 .1) in
     let q = c .before .before .before .quotient in
     next _ _ _ (named (ascii " SUM=") (a .t .sum)) _
     (alike _ _ _ _ (ap (named (ascii " SUM=")) e) (c .before .before .before .before .before .before .before .before .before .before .before .put-named .ensures))
     (alike _ _ _ _
-    (ap (named (ascii " TOT=")) (back64 (q .result) (q .ok) ∙ q .ensures ∙ ap₂ quotientOf e (toZ-ofZ (s .fits .time-base)))
-    ∙ ap (λ (r : Range). rangeWord r (quotientOf (a .t .sum) (a .time-base))) (sym (c .before .before .before .before .before .before .before .enum-told .given .1)))
+    (ap (named (ascii " TOT=")) (back64 (q .result) (q .ok) ∙ q .ensures ∙ ap (quotientOf (a .s)) e)
+    ∙ ap (λ (r : Range). rangeWord r (quotientOf (a .s) (a .t .sum))) (sym (c .before .before .before .before .before .before .before .enum-told .given .1)))
     (c .before .before .put-named2 .ensures))
 
 same-length-2 : tie.Need-same-length-2
@@ -72,7 +70,7 @@ returns-2 c =
     let a = c .before .before .before .before .before .before .before .before .before .before .before .before .before .before .args in
     next _ _ _ (named (ascii " SUM=") (a .t .sum)) _
     (alike _ _ _ _ (ap (named (ascii " SUM=")) (back64 (a .t .sum) (c .before .before .before .before .before .before .before .before .before .before .struct-told .given .0 .1))) (c .before .before .before .before .before .before .before .before .before .put-named .ensures))
-    (alike _ _ _ _ (ap (λ (r : Range). rangeWord r (quotientOf (a .t .sum) (a .time-base))) (sym (c .before .before .before .before .before .enum-told2 .given .1))) (one _ _ _ (c .before .before .put .ensures)))
+    (alike _ _ _ _ (ap (λ (r : Range). rangeWord r (quotientOf (a .s) (a .t .sum))) (sym (c .before .before .before .before .before .enum-told2 .given .1))) (one _ _ _ (c .before .before .put .ensures)))
 
 same-length-3 : tie.Need-same-length-3
 same-length-3 c = search needs
@@ -83,7 +81,7 @@ returns-3 c =
     let a = c .before .before .before .before .before .before .before .before .before .before .before .before .before .before .args in
     next _ _ _ (named (ascii " SUM=") (a .t .sum)) _
     (alike _ _ _ _ (ap (named (ascii " SUM=")) (back64 (a .t .sum) (c .before .before .before .before .before .before .before .before .before .before .struct-told .given .0 .1))) (c .before .before .before .before .before .before .before .before .before .put-named .ensures))
-    (alike _ _ _ _ (ap (λ (r : Range). rangeWord r (quotientOf (a .t .sum) (a .time-base))) (sym (c .before .before .before .before .before .enum-told3 .given .1))) (one _ _ _ (c .before .before .put2 .ensures)))
+    (alike _ _ _ _ (ap (λ (r : Range). rangeWord r (quotientOf (a .s) (a .t .sum))) (sym (c .before .before .before .before .before .enum-told3 .given .1))) (one _ _ _ (c .before .before .put2 .ensures)))
 
 pub put-total-spec : {M : Type 1} → statement M
 put-total-spec =

@@ -11,30 +11,36 @@ use Rattle.replay.proofs.Pieces.{quotient-none, quotient-is}
 use Rattle.replay.proofs.show.quotient.Statement.{statement}
 use Rattle.replay.proofs.show.quotient.Tie as tie
 
+base : (c : tie.After-struct-told) → SFits w32 (c .before .before .args .s .«time_base»)
+base c = record { sfits = c .struct-told .given .1 .1 .1 .0 .1 }
+
 returns : tie.Need-returns
-returns c = quotient-none (c .before .args .sum) (c .before .args .time-base) (rw (toZ-ofZ (c .before .fits .time-base)) at (c .if1 .taken))
+returns c = quotient-none (c .before .before .before .args .s) (c .before .before .before .args .sum) (rw (toZ-ofZ (base (c .before))) at (c .if1 .taken))
 
 cast-cut : tie.Need-cast-cut
-cast-cut c = widens (c .before .fits .time-base)
+cast-cut c = widens (base (c .before .before .before))
 
 -- the unit, as the machine has it
-is : (c : tie.Else1) → pos 20000 *ℤ toZ w64 (ofZ w64 (toZ w32 (ofZ w32 (c .before .args .time-base)))) ≡ pos 20000 *ℤ c .before .args .time-base
-is c = ap (λ (z : ℤ). pos 20000 *ℤ z) (widened (c .before .fits .time-base))
+is : (c : tie.Else1)
+    → pos 20000 *ℤ toZ w64 (ofZ w64 (toZ w32 (ofZ w32 (c .before .before .before .args .s .«time_base»)))) ≡ pos 20000 *ℤ c .before .before .before .args .s .«time_base»
+is c = ap (λ (z : ℤ). pos 20000 *ℤ z) (widened (base (c .before)))
 
-known : (c : tie.Else1) → (SFits w64 (pos 20000 *ℤ c .before .args .time-base)) × Divisor (pos 20000 *ℤ c .before .args .time-base)
-known c = unit (c .before .fits .time-base) (rw (toZ-ofZ (c .before .fits .time-base)) at (c .if1 .left))
+known : (c : tie.Else1)
+    → (SFits w64 (pos 20000 *ℤ c .before .before .before .args .s .«time_base»)) × Divisor (pos 20000 *ℤ c .before .before .before .args .s .«time_base»)
+known c = unit (base (c .before)) (rw (toZ-ofZ (base (c .before))) at (c .if1 .left))
 
 mul-cut : tie.Need-mul-cut
-mul-cut c = fits-as (is c) (known c .0)
+mul-cut c = fits-as (is (c .before .before)) (known (c .before .before) .0)
 
 cut-requires : tie.Need-cut-requires
-cut-requires c κs = rw (rd (is c) (known c .0)) (known c .1)
+cut-requires c κs = rw (rd (is (c .before .before)) (known (c .before .before) .0)) (known (c .before .before) .1)
 
 returns-2 : tie.Need-returns-2
 returns-2 c =
-    let s = c .before .before in
-    back64 (c .cut .result) (c .cut .ok) ∙ c .cut .ensures ∙ rw (toZ-ofZ (s .fits .sum), rd (is (c .before)) (known (c .before) .0))
-    (quotient-is (s .args .sum) (s .args .time-base) (rw (toZ-ofZ (s .fits .time-base)) at (c .before .if1 .left)))
+    let e = c .before .before .before in
+    let a = e .before .before .before in
+    back64 (c .cut .result) (c .cut .ok) ∙ c .cut .ensures ∙ rw (toZ-ofZ (a .fits .sum), rd (is e) (known e .0))
+    (quotient-is (a .args .s) (a .args .sum) (rw (toZ-ofZ (base (e .before))) at (e .if1 .left)))
 
 pub quotient-spec : {M : Type 1} → statement M
 quotient-spec = tie.close (tie.spec returns cast-cut mul-cut cut-requires returns-2)
