@@ -1,3 +1,4 @@
 pub mod Config
 pub mod Meaning
 pub mod Bench
+pub mod Limits
