@@ -11,7 +11,7 @@ use lib.Dec.{ltb}
 use lib.IntN.{ℤ, pos, negsuc, negℤ, natAbs, subℕ, _+ℤ_, _-ℤ_, _*ℤ_, +ℤ-invr, *ℤ-comm, negℤ-negℤ}
 use Rattle.exact.specs.Sign.{isNeg}
 use Rattle.exact.specs.Exact.{halfUp, nearest, toStep, cut, floor}
-use Rattle.exact.specs.Meaning.{IsNearest, IsCut, IsFloor}
+use Rattle.exact.specs.Meaning.{IsNearest, IsToStep, IsCut, IsFloor}
 use Rattle.exact.proofs.Z.{never, abs-diff, abs-subℕ, abs-neg-neg, abs-neg, abs-mul, mul-neg, mul-one, between-signs, between-signs′}
 
 -- ---- distances, on the same side of zero and on two sides
@@ -88,10 +88,20 @@ nearest-whole z d h =
 
 -- ---- to a step
 
--- a multiple of the step that is at most half a step away
-pub step-near : (v : ℤ) (step : ℕ) → 0 < step → 2 * natAbs (toStep v step -ℤ v) ≤ step
+pub to-step-is : (v : ℤ) (step : ℕ) → 0 < step → IsToStep v step (toStep v step)
 unfolding toStep
-step-near v step h = rw (*ℤ-comm (nearest v step) (pos step)) (nearest-is v step h .near)
+to-step-is v step h =
+    let i = nearest-is v step h in
+    rw *ℤ-comm (record { times = nearest v step; multiple = refl; near = i .near; away = λ t. rw abs-mul (i .away t) })
+
+pub to-step-only : (v : ℤ) (step : ℕ) (r : ℤ) → 0 < step → IsToStep v step r → r ≡ toStep v step
+unfolding toStep
+to-step-only v step r h i =
+    let e = i .multiple in
+    let n : IsNearest v step (i .times) =
+        record { near = rw e at (i .near); away = λ t. rw (e, abs-mul (pos step) (i .times)) at (i .away (rw e t)) }
+    in
+    e ∙ *ℤ-comm (pos step) (i .times) ∙ ap (λ (k : ℤ). k *ℤ pos step) (nearest-only v step (i .times) h n)
 
 pub step-abs : (v : ℤ) (step : ℕ) → 2 * natAbs (toStep v step) ≤ 2 * natAbs v + step
 unfolding toStep

@@ -11,6 +11,13 @@ pub record IsNearest (n : ℤ) (d : ℕ) (r : ℤ) : Type 0 where
   pub near : 2 * natAbs (pos d *ℤ r -ℤ n) ≤ d
   pub away : 2 * natAbs (pos d *ℤ r -ℤ n) ≡ d → natAbs n ≤ d * natAbs r
 
+-- r is the nearest multiple of a step to v: so many steps, at most half a step away, and at a half away from zero
+pub record IsToStep (v : ℤ) (step : ℕ) (r : ℤ) : Type 0 where
+  pub times : ℤ
+  pub multiple : r ≡ pos step *ℤ times
+  pub near : 2 * natAbs (r -ℤ v) ≤ step
+  pub away : 2 * natAbs (r -ℤ v) ≡ step → natAbs v ≤ natAbs r
+
 -- r is n / d cut towards zero: not farther from zero than n / d, and less than a unit away
 pub record IsCut (n : ℤ) (d : ℕ) (r : ℤ) : Type 0 where
   pub towards : d * natAbs r ≤ natAbs n
