@@ -99,7 +99,7 @@ unfolding toStep
 to-step-only v step r h i =
     let e = i .multiple in
     let n : IsNearest v step (i .times) =
-        record { near = rw e at (i .near); away = λ t. rw (e, abs-mul (pos step) (i .times)) at (i .away (rw e t)) }
+    record { near = rw e at (i .near); away = λ t. rw (e, abs-mul (pos step) (i .times)) at (i .away (rw e t)) }
     in
     e ∙ *ℤ-comm (pos step) (i .times) ∙ ap (λ (k : ℤ). k *ℤ pos step) (nearest-only v step (i .times) h n)
 

@@ -77,7 +77,7 @@ sign-onward (negsuc n) = refl
 
 -- ---- digits: no byte below them, as a minus or a point
 
-is-digit : (n : ℕ) → isDigit (digit n) ≡ true
+pub is-digit : (n : ℕ) → isDigit (digit n) ≡ true
 is-digit n = within-is 48 57 (digit n) (omega arith) (omega arith)
 
 last-onward : (m n : ℕ) → onward m (digit n ∷ []) ≡ 10 * m + n % 10
@@ -162,7 +162,7 @@ number-digit places z =
     let f = fraction places (natAbs z % 10 ^ places) in
     digit-append (sign z ++ w) f ∙ rw (digit-append (sign z) w, whole-digit (natAbs z / 10 ^ places), or-true (hasDigit (sign z)))
 
-number-onward : (places : ℕ) (z : ℤ) → natAbs z < 10 ^ 9 → onward 0 (number places z) ≡ natAbs z
+pub number-onward : (places : ℕ) (z : ℤ) → natAbs z < 10 ^ 9 → onward 0 (number places z) ≡ natAbs z
 unfolding number
 number-onward places z h =
     let m = natAbs z / 10 ^ places in

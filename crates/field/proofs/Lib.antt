@@ -3,3 +3,4 @@ pub mod Right
 pub mod Number
 pub mod Length
 pub mod Back
+pub mod Shape

@@ -1,2 +1,3 @@
 pub mod Field
 pub mod Back
+pub mod Shape
