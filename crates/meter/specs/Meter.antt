@@ -43,9 +43,6 @@ withInstrument m i = record { config = m .config; instrument = i; receiver = m .
 abbrev pub withReceiver : Meter → Receiver → Meter
 withReceiver m r = record { config = m .config; instrument = m .instrument; receiver = r }
 
-abbrev pub emptied : Meter → Meter
-emptied m = withReceiver m (receivers.emptied (m .receiver))
-
 -- ---- power-up: 0 with a fresh meter, or 11 with the number of the first broken rule
 
 abbrev pub fresh : Config → Meter
@@ -82,7 +79,7 @@ abbrev pub keyed : Meter → ℤ → List ℕ → ℕ → Step
 keyed m k buffer place =
     cond (door works m) (settledIn m (settle (m .instrument) (keyEffect m k) buffer place)) (step NotStarted m buffer)
 
--- ---- a string that has ended: 6 for more than 32 bytes, and else what it is told. The receiver is emptied whatever the answer
+-- ---- a string that has ended: 6 for more than 32 bytes, and else what it is told
 
 abbrev pub heardEffect : Talking → Working → Instrument → Receiver → Effect
 heardEffect t w i r = cond (receivers.over (r .length)) (stands (settled TooLong i)) (told t w i (take (r .length) (r .bytes)))
@@ -90,16 +87,18 @@ heardEffect t w i r = cond (receivers.over (r .length)) (stands (settled TooLong
 abbrev pub endEffect : Meter → Effect
 endEffect m = heardEffect (m .config .talking) (m .config .working) (m .instrument) (m .receiver)
 
-abbrev pub ended : Meter → List ℕ → ℕ → Step
-ended m buffer place = settledIn (emptied m) (settle (m .instrument) (endEffect m) buffer place)
+-- ---- a byte goes into the receiver, whatever is answered
 
--- ---- a byte: 1 where it is part of a string, 5 where it drops one, and what the string says where it ends one
+abbrev pub takes : Meter → ℕ → Meter
+takes m b = withReceiver m (receivers.next (m .receiver) b)
 
-abbrev pub byKind : Meter → ℕ → List ℕ → ℕ → Kind → Step
-byKind m b buffer place Part = step Stored (withReceiver m (receivers.store (m .receiver) b)) buffer
-byKind m b buffer place Drop = step Dropped (emptied m) buffer
-byKind m b buffer place End = ended m buffer place
+-- 1 where it is part of a string, 5 where it drops one, and what the string says where it ends one. Then n is left, the meter m with
+-- the byte heard; m has the string still
+abbrev pub byKind : Meter → Meter → List ℕ → ℕ → Kind → Step
+byKind m n buffer place Part = step Stored n buffer
+byKind m n buffer place Drop = step Dropped n buffer
+byKind m n buffer place End = settledIn n (settle (m .instrument) (endEffect m) buffer place)
 
 abbrev pub received : Meter → ℕ → List ℕ → ℕ → Step
 received m b buffer place =
-    cond (door (reachOf (receivers.kind b)) m) (byKind m b buffer place (receivers.kind b)) (step NotStarted m buffer)
+    cond (door (reachOf (receivers.kind b)) m) (byKind m (takes m b) buffer place (receivers.kind b)) (step NotStarted m buffer)

@@ -16,7 +16,7 @@ use Rattle.receiver.specs.Receiver.{kind}
 use Rattle.receiver.specs.declared.Kind.{Kind}
 use Rattle.receiver.specs.declared.Kind.the-variants.{End, Drop, Part}
 use Rattle.meter.specs.Door.{sound, reachOf, door}
-use Rattle.meter.specs.Meter.{Step, byVerdict, byKind}
+use Rattle.meter.specs.Meter.{Step, byVerdict, takes, byKind}
 use Rattle.meter.specs.declared.Meter.{Meter}
 use Rattle.meter.specs.declared.Outcome.{Outcome}
 use Rattle.promises.specs.Calls.{Call, power-up, sample, key, byte, answered, possible}
@@ -30,11 +30,11 @@ verdicts c Accepted = refl
 verdicts c (Broken rule) = refl
 
 -- a byte of any kind that is let in is answered by 0 to 9
-by-kinds : (P : ℕ → Type 0) → ((n : ℕ) → n ≤ 9 → P n) → (m : Meter) (b : ℕ) (buffer : List ℕ) (place : ℕ) (k : Kind)
-    → P (number (byKind m b buffer place k .outcome .answer))
-by-kinds P small m b buffer place Part = small 1 (omega arith)
-by-kinds P small m b buffer place Drop = small 5 (omega arith)
-by-kinds P small m b buffer place End =
+by-kinds : (P : ℕ → Type 0) → ((n : ℕ) → n ≤ 9 → P n) → (m n : Meter) (buffer : List ℕ) (place : ℕ) (k : Kind)
+    → P (number (byKind m n buffer place k .outcome .answer))
+by-kinds P small m n buffer place Part = small 1 (omega arith)
+by-kinds P small m n buffer place Drop = small 5 (omega arith)
+by-kinds P small m n buffer place End =
     answered-by buffer place P (small 0 (omega arith)) (λ n r. small n (omega arith)) (small 2 (omega arith)) (small 9 (omega arith)) (end-upon m)
 
 pub numbered : (k : Call) → possible k (answered k) ≡ true
@@ -46,7 +46,7 @@ numbered (key m k buffer place) =
 numbered (byte m b buffer place) =
     let P : ℕ → Type 0 = λ n. possible (byte m b buffer place) n ≡ true in
     either (λ (s : Step). P (number (s .outcome .answer))) (door (reachOf (kind b)) m)
-    (by-kinds P (λ n small. rw (le-leb n 9 small)) m b buffer place (kind b)) refl
+    (by-kinds P (λ n small. rw (le-leb n 9 small)) m (takes m b) buffer place (kind b)) refl
 
 -- a sound meter never answers 12
 pub sound-never-12 : (m : Meter) → sound m ≡ true → Never12 m
@@ -60,5 +60,5 @@ sound-never-12 m ok =
           (answered-by buffer place P (λ q. omega arith) (λ n ten q. omega arith) (λ q. omega arith) (λ q. omega arith) (key-upon m k));
       received =
           λ b buffer place.
-          rw (received-in m buffer place b (stands-open m (reachOf (kind b)) ok)) (by-kinds P (λ n small q. omega arith) m b buffer place (kind b));
+          rw (received-in m buffer place b (stands-open m (reachOf (kind b)) ok)) (by-kinds P (λ n small q. omega arith) m (takes m b) buffer place (kind b));
     }

@@ -8,14 +8,14 @@ use lib.IntN.{ℤ}
 use lib.ListN.{take}
 use Rattle.exact.proofs.Z.{both}
 use Rattle.answer.specs.declared.Answer.the-variants.{TooLong}
-use Rattle.receiver.specs.Receiver.{Heard, bytes, too-long, over, kind, heard}
+use Rattle.receiver.specs.Receiver.{Heard, bytes, too-long, over, kind, taken, heard}
 use Rattle.receiver.specs.declared.Kind.{Kind}
 use Rattle.instrument.specs.Instrument.{canScale}
 use Rattle.instrument.proofs.Scale.{scale-steps}
 use Rattle.effect.specs.Able.{able}
 use Rattle.effect.specs.Effect.{Effect, stands, settled, settle, told}
 use Rattle.meter.specs.Door.{started, sound, Reach, works, hears, reachOf, door}
-use Rattle.meter.specs.Meter.{settledIn, keyEffect, endEffect, byKind, received, keyed}
+use Rattle.meter.specs.Meter.{withReceiver, settledIn, keyEffect, endEffect, takes, byKind, received, keyed}
 use Rattle.meter.specs.declared.Meter.{Meter}
 
 opens : {A : Type 0} {t : Bool} (x y : A) → t ≡ true → cond t x y ≡ x
@@ -51,10 +51,10 @@ module _ (m : Meter) (buffer : List ℕ) (place : ℕ) where
   keyed-in k ok = opens _ _ ok
 
   -- a byte whose kind is known, and one of any kind
-  pub received-as : (b : ℕ) (k : Kind) → kind b ≡ k → door (reachOf k) m ≡ true → received m b buffer place ≡ byKind m b buffer place k
+  pub received-as : (b : ℕ) (k : Kind) → kind b ≡ k → door (reachOf k) m ≡ true → received m b buffer place ≡ byKind m (withReceiver m (taken k (m .receiver) b)) buffer place k
   received-as b k e ok = rw e (opens _ _ ok)
 
-  pub received-in : (b : ℕ) → door (reachOf (kind b)) m ≡ true → received m b buffer place ≡ byKind m b buffer place (kind b)
+  pub received-in : (b : ℕ) → door (reachOf (kind b)) m ≡ true → received m b buffer place ≡ byKind m (takes m b) buffer place (kind b)
   received-in b ok = received-as b (kind b) refl ok
 
 module _ (m : Meter) where

@@ -1,22 +1,22 @@
 -- The table of answers, row by row. Assumes nothing.
 use mathlib.Core.Path.{_≡_, refl, ap, _∙_}
-use mathlib.Core.Bool.{Bool, true, false, cond}
-use mathlib.Core.List.{List, []}
+use mathlib.Core.Bool.{true, false}
+use mathlib.Core.List.{List, [], _∷_}
 use mathlib.Core.Logic.{_≢_}
-use Prim.Native.Nat.{ℕ, _≤_}
+use Prim.Native.Nat.{ℕ, _+_, _≤_}
 use native.Mathlib.Omega.{arith}
-use borrow.Author.Tests.{eq-eqb, ne-eqb, le-ltb, ltb-true}
+use borrow.Author.Tests.{eq-eqb, ne-eqb, lt-ltb, le-ltb}
 use lib.IntN.{ℤ, pos}
-use lib.ListN.{length, take}
+use lib.ListN.{length, length-append}
 use Rattle.exact.specs.Sign.{eqZ}
 use Rattle.exact.proofs.Z.{eqZ-false}
 use Rattle.answer.specs.Answer as answers
 use Rattle.answer.specs.declared.Answer.{Answer}
 use Rattle.answer.specs.declared.Answer.the-variants.{Done, Stored, Replied, OtherNode, BadForm, Dropped, TooLong, OutOfRange, InAutomatic, NoRoom, UnknownKey, Refused, NotStarted}
 use Rattle.config.specs.declared.Config.{Config}
-use Rattle.receiver.specs.Receiver.{Heard, bytes, too-long, limit, over, kind, heard, store}
-use Rattle.receiver.specs.declared.Receiver.{Receiver}
+use Rattle.receiver.specs.Receiver.{Heard, bytes, too-long, limit, kind, heard}
 use Rattle.receiver.specs.declared.Kind.the-variants.{End, Drop, Part}
+use Rattle.receiver.proofs.Hearing.{more, stored-heard}
 use Rattle.command.specs.declared.Asked.{Asked}
 use Rattle.command.specs.declared.Asked.the-variants.{Read, Print, Reset, Write, Status}
 use Rattle.form.specs.Grammar.{Says}
@@ -26,10 +26,10 @@ use Rattle.line.specs.Buffer.{laid}
 use Rattle.instrument.proofs.Permits.{judged}
 use Rattle.effect.specs.Effect.{Effect, replies, settle, carried}
 use Rattle.meter.specs.Door.{sound, works, reachOf}
-use Rattle.meter.specs.Meter.{Step, step, withInstrument, emptied, settledIn, received}
+use Rattle.meter.specs.Meter.{Step, step, withInstrument, settledIn, received}
 use Rattle.meter.specs.declared.Meter.{Meter}
-use Rattle.promises.specs.Calls.{Call, power-up, sample, key, byte, result}
-use Rattle.promises.specs.Rows.{Gives, Ends, nodeOf, Room, Cramped, lineOf, blockOf, Row0, Row1, Row2, Row3, Row4, Row5, Row6, Row7, Row8, Row9, Row10, Row12, EventRows, PowerUpRows}
+use Rattle.promises.specs.Calls.{Call, power-up, sample, key, byte, result, left}
+use Rattle.promises.specs.Rows.{Gives, Ends, GoesOn, nodeOf, Room, Cramped, emptied, lineOf, blockOf, Row0, Row1, Row2, Row3, Row4, Row5, Row6, Row7, Row8, Row9, Row10, Row12, EventRows, PowerUpRows}
 use Rattle.promises.specs.Started.{Shut}
 use Rattle.promises.proofs.Door.{shuts, stands-shut, keyed-in, received-as, endedAs, at-end}
 use Rattle.promises.proofs.Settling.{with-room, without-room}
@@ -43,17 +43,6 @@ gives k a m buffer e =
       meter = ap (λ (s : Step). s .outcome .meter) e;
       bytes = ap (λ (s : Step). s .buffer) e;
     }
-
--- ---- a string that is too long stays too long
-
-passed-by : (r : Receiver) (b : ℕ) (t : Bool) → over (r .length) ≡ t → cond t too-long (bytes (take (r .length) (r .bytes))) ≡ too-long → heard (store r b) ≡ too-long
-unfolding heard store
-passed-by r b true e q = rw (le-ltb (r .length) limit (omega (arith, ltb-true limit (r .length) e)))
-passed-by r b false e q = absurd (let z : _≡_ {A = ℕ} 0 1 = cc in omega arith)
-
-passed-over : (r : Receiver) (b : ℕ) → heard r ≡ too-long → heard (store r b) ≡ too-long
-unfolding heard
-passed-over r b h = passed-by r b (over (r .length)) refl h
 
 module _ (m : Meter) (buffer : List ℕ) (place : ℕ) where
   -- ---- what an effect upon this meter comes to
@@ -80,6 +69,14 @@ module _ (m : Meter) (buffer : List ℕ) (place : ℕ) where
       → received m b buffer place ≡ settles (emptied m) (carried (m .config .talking) (m .config .working) (m .instrument) a)
   obeys b s a e x = tells b s e ∙ rw (says-parse x, eq-eqb (nodeOf m) (nodeOf m) refl)
 
+  -- ---- a byte that is part of one
+
+  goes-on : (b : ℕ) (h : Heard) → GoesOn m b h → heard (left (byte m b buffer place) .receiver) ≡ more h b
+  goes-on b h g =
+      ap (λ (s : Step). heard (s .outcome .meter .receiver)) (received-as m buffer place b Part (g .part) (g .ready))
+      ∙ stored-heard (m .receiver) b (g .places)
+      ∙ ap (λ (x : Heard). more x b) (g .so-far)
+
   -- ---- the rows
 
   row-0 : Row0 m buffer place
@@ -101,8 +98,10 @@ module _ (m : Meter) (buffer : List ℕ) (place : ℕ) where
   row-1 : Row1 m buffer place
   row-1 =
       record {
-        stored = λ b ok part. gives (byte m b buffer place) Stored _ _ (received-as m buffer place b Part part ok);
-        passed-over = λ b h. passed-over (m .receiver) b h;
+        stored = λ b ok part. gives (byte m b buffer place) Stored _ _ (received-as m buffer place b Part part ok ∙ rw part);
+        heard = λ b s g room. goes-on b (bytes s) g ∙ rw (length-append s (b ∷ []), le-ltb limit (length s + 1) (omega arith));
+        full = λ b s g none. goes-on b (bytes s) g ∙ rw (length-append s (b ∷ []), lt-ltb limit (length s + 1) (omega arith));
+        passed-over = λ b g. goes-on b too-long g;
       }
 
   row-2 : Row2 m buffer place

@@ -21,7 +21,7 @@ use Rattle.instrument.proofs.Soundness as soundness
 use Rattle.effect.specs.Able.{canTalk, canWork, able}
 use Rattle.effect.specs.Effect.{Effect, settle}
 use Rattle.meter.specs.Door.{sound, reachOf, door}
-use Rattle.meter.specs.Meter.{Step, fresh, byKind}
+use Rattle.meter.specs.Meter.{Step, fresh, withReceiver, byKind}
 use Rattle.meter.specs.declared.Meter.{Meter}
 use Rattle.meter.specs.declared.Outcome.{Outcome}
 use Rattle.promises.specs.Calls.{sample, key, byte, left}
@@ -83,14 +83,14 @@ module _ (m : Meter) (e : sound m ≡ true) where
       either (λ (s : Step). sound (s .outcome .meter) ≡ true) (sound m)
       (with-sound _ (m .receiver) (settled-sound d place (key-upon m k))) e
 
-  kind-sound : (b : ℕ) (d : List ℕ) (place : ℕ) (k : Kind) → sound (byKind m b d place k .outcome .meter) ≡ true
-  kind-sound b d place Part = with-sound _ _ (able-parts .1)
-  kind-sound b d place Drop = with-sound _ _ (able-parts .1)
-  kind-sound b d place End = with-sound _ _ (settled-sound d place (end-upon m))
+  kind-sound : (r : Receiver) (d : List ℕ) (place : ℕ) (k : Kind) → sound (byKind m (withReceiver m r) d place k .outcome .meter) ≡ true
+  kind-sound r d place Part = with-sound _ _ (able-parts .1)
+  kind-sound r d place Drop = with-sound _ _ (able-parts .1)
+  kind-sound r d place End = with-sound _ _ (settled-sound d place (end-upon m))
 
   received-sound : (b : ℕ) (d : List ℕ) (place : ℕ) → sound (left (byte m b d place)) ≡ true
   received-sound b d place =
-      either (λ (s : Step). sound (s .outcome .meter) ≡ true) (door (reachOf (receivers.kind b)) m) (kind-sound b d place (receivers.kind b)) e
+      either (λ (s : Step). sound (s .outcome .meter) ≡ true) (door (reachOf (receivers.kind b)) m) (kind-sound (receivers.next (m .receiver) b) d place (receivers.kind b)) e
 
 pub stays-sound : StaysSound
 stays-sound =

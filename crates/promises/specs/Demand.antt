@@ -9,7 +9,7 @@ use Rattle.meter.specs.declared.Meter.{Meter}
 use Rattle.promises.specs.Calls.{Call, lent, placeOf, result, Allows, answered, possible}
 use Rattle.promises.specs.Rows.{EventRows, PowerUpRows}
 use Rattle.promises.specs.Leaves.{Buffer, Leaves}
-use Rattle.promises.specs.Started.{Shut, StaysSound, Reached, Never12}
+use Rattle.promises.specs.Started.{Shut, StaysSound, Reached, Never12, Places}
 
 pub record Demand1 : Type 0 where
   -- any two outcomes that a contract allows are equal
@@ -27,3 +27,5 @@ pub record Demand1 : Type 0 where
   -- no event of any history after an accepted power-up is answered 12
   pub stays-sound : StaysSound
   pub never-12 : (m : Meter) → Reached m → Never12 m
+  -- and its receiver has the 32 places that row 1 speaks of
+  pub places : (m : Meter) → Reached m → Places m

@@ -7,7 +7,7 @@ use Prim.Native.Nat.{ℕ, _+_, _≤_}
 use lib.IntN.{ℤ}
 use lib.ListN.{length, take, drop}
 use Rattle.answer.specs.Answer.{number, value}
-use Rattle.receiver.specs.Receiver.{bytes, heard, kind}
+use Rattle.receiver.specs.Receiver.{bytes, heard, kind, next}
 use Rattle.receiver.specs.declared.Kind.the-variants.{Part}
 use Rattle.meter.specs.Door.{reachOf, door}
 use Rattle.meter.specs.Meter.{Step}
@@ -37,7 +37,9 @@ pub record Leaves (m : Meter) : Type 0 where
       → Emptied m (left (byte m b buffer place))
   -- so does a reply
   pub replied : (b : ℕ) (buffer : List ℕ) (place : ℕ) → answered (byte m b buffer place) ≡ 2 → Emptied m (left (byte m b buffer place))
-  -- any string's end empties the receiver, and so do CR and LF
+  -- a byte that is let in does to the receiver what one does to a receiver, whatever is answered
+  pub hears : (b : ℕ) (buffer : List ℕ) (place : ℕ) → door (reachOf (kind b)) m ≡ true → left (byte m b buffer place) .receiver ≡ next (m .receiver) b
+  -- so any string's end empties the receiver, and so do CR and LF
   pub ended : (b : ℕ) (buffer : List ℕ) (place : ℕ) → door (reachOf (kind b)) m ≡ true → kind b ≢ Part → heard (left (byte m b buffer place) .receiver) ≡ bytes []
   -- samples and keys leave a half received string as it is
   pub sample-half : (x : ℤ) → left (sample m x) .receiver ≡ m .receiver

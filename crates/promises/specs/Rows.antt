@@ -1,7 +1,7 @@
 -- Document 01's table of answers, row by row: what is given, and what is then returned and left.
 use mathlib.Core.Path.{_≡_}
 use mathlib.Core.Bool.{true, false}
-use mathlib.Core.List.{List, []}
+use mathlib.Core.List.{List, [], _∷_, _++_}
 use mathlib.Core.Logic.{_≢_}
 use Prim.Native.Nat.{ℕ, _+_, _≤_, _<_}
 use lib.IntN.{ℤ, pos, natAbs}
@@ -12,7 +12,7 @@ use Rattle.config.specs.Config as configs
 use Rattle.config.specs.declared.Config.{Config}
 use Rattle.config.specs.declared.Verdict.the-variants.{Accepted, Broken}
 use Rattle.receiver.specs.Receiver as receivers
-use Rattle.receiver.specs.Receiver.{bytes, too-long}
+use Rattle.receiver.specs.Receiver.{Heard, bytes, too-long, limit}
 use Rattle.receiver.specs.declared.Kind.the-variants.{End, Drop, Part}
 use Rattle.command.specs.declared.Asked.the-variants.{Read, Print, Reset, Write, Status}
 use Rattle.form.specs.Grammar.{For, Says, NoDigit}
@@ -23,9 +23,9 @@ use Rattle.instrument.specs.Meaning.{numberIn, shut}
 use Rattle.instrument.specs.declared.Instrument.{Instrument}
 use Rattle.effect.specs.Reply.{readReply, printReply}
 use Rattle.meter.specs.Door.{started, sound, reachOf, door}
-use Rattle.meter.specs.Meter.{fresh, notStarted, withInstrument, withReceiver, emptied, measured}
+use Rattle.meter.specs.Meter.{fresh, notStarted, withInstrument, withReceiver, takes, measured}
 use Rattle.meter.specs.declared.Meter.{Meter}
-use Rattle.promises.specs.Calls.{Call, power-up, sample, key, byte, result}
+use Rattle.promises.specs.Calls.{Call, power-up, sample, key, byte, result, left}
 
 -- ---- what is returned and left: the answer's number and the number that it carries, the meter, and every byte of the buffer
 
@@ -42,6 +42,13 @@ pub record Ends (m : Meter) (b : ℕ) (s : List ℕ) : Type 0 where
   pub started : sound m ≡ true
   pub ends : receivers.kind b ≡ End
   pub string : receivers.heard (m .receiver) ≡ bytes s
+
+-- a byte that is part of a string comes to a started meter, which has heard h so far and has the 32 places of its receiver
+pub record GoesOn (m : Meter) (b : ℕ) (h : Heard) : Type 0 where
+  pub ready : started m ≡ true
+  pub part : receivers.kind b ≡ Part
+  pub places : length (m .receiver .bytes) ≡ limit
+  pub so-far : receivers.heard (m .receiver) ≡ h
 
 -- this meter's node, as strings name it
 abbrev pub nodeOf : Meter → ℕ
@@ -60,6 +67,10 @@ lineOf m r = readReply (m .config .talking) (m .config .working) (m .instrument)
 
 abbrev pub blockOf : Meter → List ℕ
 blockOf m = printReply (m .config .talking) (m .config .working) (m .instrument)
+
+-- the meter with nothing in its receiver
+abbrev pub emptied : Meter → Meter
+emptied m = withReceiver m (receivers.emptied (m .receiver))
 
 -- the meter that a string leaves which changes the instrument: its receiver is emptied
 abbrev pub changed : Meter → Instrument → Meter
@@ -92,8 +103,12 @@ module _ (m : Meter) (buffer : List ℕ) (place : ℕ) where
   -- 1: a byte is stored, or passed over where the string is already too long; only the receiver changes
   pub record Row1 : Type 0 where
     pub stored : (b : ℕ) → started m ≡ true → receivers.kind b ≡ Part
-        → Gives (byte m b buffer place) 1 0 (withReceiver m (receivers.store (m .receiver) b)) buffer
-    pub passed-over : (b : ℕ) → receivers.heard (m .receiver) ≡ too-long → receivers.heard (receivers.store (m .receiver) b) ≡ too-long
+        → Gives (byte m b buffer place) 1 0 (takes m b) buffer
+    -- what is stored is the byte, behind those of the string so far
+    pub heard : (b : ℕ) (s : List ℕ) → GoesOn m b (bytes s) → length s < limit → receivers.heard (left (byte m b buffer place) .receiver) ≡ bytes (s ++ b ∷ [])
+    -- the 33rd makes the string too long, and every further one leaves it so
+    pub full : (b : ℕ) (s : List ℕ) → GoesOn m b (bytes s) → limit ≤ length s → receivers.heard (left (byte m b buffer place) .receiver) ≡ too-long
+    pub passed-over : (b : ℕ) → GoesOn m b too-long → receivers.heard (left (byte m b buffer place) .receiver) ≡ too-long
 
   -- 2: a reply is written, and just its bytes
   pub record Row2 : Type 0 where

@@ -5,9 +5,11 @@ use mathlib.Core.List.{List, []}
 use mathlib.Core.Logic.{_≢_}
 use Prim.Native.Nat.{ℕ}
 use lib.IntN.{ℤ}
+use lib.ListN.{length}
 use Rattle.config.specs.Config.{judged}
 use Rattle.config.specs.declared.Config.{Config}
 use Rattle.config.specs.declared.Verdict.the-variants.{Accepted}
+use Rattle.receiver.specs.Receiver.{limit}
 use Rattle.meter.specs.Door.{started, sound}
 use Rattle.meter.specs.Meter.{fresh}
 use Rattle.meter.specs.declared.Meter.{Meter}
@@ -34,6 +36,10 @@ pub data Reached : Meter → Type 0 where
   sampled : {m : Meter} (x : ℤ) → Reached m → Reached (left (sample m x))
   keyed : {m : Meter} (k : ℤ) (buffer : List ℕ) (place : ℕ) → Reached m → Reached (left (key m k buffer place))
   received : {m : Meter} (b : ℕ) (buffer : List ℕ) (place : ℕ) → Reached m → Reached (left (byte m b buffer place))
+
+-- such a meter's receiver has its 32 places
+abbrev pub Places : Meter → Type 0
+Places m = length (m .receiver .bytes) ≡ limit
 
 -- no event to such a meter is answered 12
 pub record Never12 (m : Meter) : Type 0 where

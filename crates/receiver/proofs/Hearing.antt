@@ -51,7 +51,7 @@ unfolding heard
 stored-by r b e true p = stored-room (r .bytes) (r .length) b e (ltb-true _ _ p)
 stored-by r b e false p = stored-full (r .bytes) (r .length) b e (ltb-false _ _ p) (over (r .length)) refl
 
-stored-heard : (r : Receiver) (b : ℕ) → length (r .bytes) ≡ limit → heard (store r b) ≡ more (heard r) b
+pub stored-heard : (r : Receiver) (b : ℕ) → length (r .bytes) ≡ limit → heard (store r b) ≡ more (heard r) b
 unfolding store
 stored-heard r b e = stored-by r b e (ltb (r .length) limit) refl
 
@@ -92,7 +92,7 @@ wide-by : (r : Receiver) (b : ℕ) → length (r .bytes) ≡ limit → (t : Bool
 wide-by r b e true = rw length-set e
 wide-by r b e false = e
 
-wide-taken : (k : Kind) (r : Receiver) (b : ℕ) → length (r .bytes) ≡ limit → length (taken k r b .bytes) ≡ limit
+pub wide-taken : (k : Kind) (r : Receiver) (b : ℕ) → length (r .bytes) ≡ limit → length (taken k r b .bytes) ≡ limit
 unfolding store
 wide-taken End r b e = e
 wide-taken Drop r b e = e
