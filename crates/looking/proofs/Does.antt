@@ -10,10 +10,9 @@ use lib.ListN.{length}
 use Rattle.exact.proofs.Z.{never, eqZ-true}
 use Rattle.config.specs.declared.Config.{Config}
 use Rattle.config.specs.declared.Working.{Working}
-use Rattle.receiver.specs.Receiver.{bytes, too-long, ends, drops, over, kind, taken, next, heard}
+use Rattle.receiver.specs.Receiver.{bytes, too-long, ends, drops, over, kind, next, heard}
 use Rattle.receiver.specs.Since.{hearing}
 use Rattle.receiver.specs.declared.Receiver.{Receiver}
-use Rattle.receiver.specs.declared.Kind.{Kind}
 use Rattle.receiver.specs.declared.Kind.the-variants.{End, Drop, Part}
 use Rattle.command.specs.Parse.{parse}
 use Rattle.command.specs.declared.Asked.{Asked}
@@ -29,7 +28,7 @@ use Rattle.effect.specs.Effect as effects
 use Rattle.effect.specs.Effect.{Effect, stands, leaves, settled, byRoom, settle, addressed, carried}
 use Rattle.answer.specs.declared.Answer.the-variants.{OtherNode}
 use Rattle.meter.specs.Door.{sound, reachOf}
-use Rattle.meter.specs.Meter.{Step, withInstrument, emptied, endEffect, byKind}
+use Rattle.meter.specs.Meter.{Step, withInstrument, withReceiver, endEffect, takes, byKind}
 use Rattle.meter.specs.declared.Meter.{Meter}
 use Rattle.promises.proofs.Door.{stands-open, keyed-in, received-in, endedAs, at-end}
 use Rattle.promises.proofs.Effects.{Upon, done, refused, reply, key-upon, end-upon}
@@ -110,19 +109,16 @@ module _ (m : Meter) (s : List ℕ) (buffer : List ℕ) (place : ℕ) where
   unfolding change
   end-does e = ap leaves (at-end m (hearing s) e) ∙ long-does (over (length s))
 
-  abbrev byteAs : ℕ → Bool → Kind → Meter
-  byteAs b t k =
-      meterOf (m .config) (carriedBy (m .config) (m .instrument) (cond (t && change (nodeOf (m .config)) s) (some (told s)) none)) (taken k (m .receiver) b)
+  kind-does : (r : Receiver) (t u : Bool) → heard (m .receiver) ≡ hearing s
+      → byKind m (withReceiver m r) buffer place (cond t End (cond u Drop Part)) .outcome .meter
+      ≡ meterOf (m .config) (carriedBy (m .config) (m .instrument) (cond (t && change (nodeOf (m .config)) s) (some (told s)) none)) r
+  kind-does r true u e = ap (withInstrument (withReceiver m r)) (settles buffer place (end-upon m) ∙ end-does e)
+  kind-does r false true e = refl
+  kind-does r false false e = refl
 
-  kind-does : (b : ℕ) (t u : Bool) → heard (m .receiver) ≡ hearing s
-      → byKind m b buffer place (cond t End (cond u Drop Part)) .outcome .meter ≡ byteAs b t (cond t End (cond u Drop Part))
-  kind-does b true u e = ap (withInstrument (emptied m)) (settles buffer place (end-upon m) ∙ end-does e)
-  kind-does b false true e = refl
-  kind-does b false false e = refl
-
-  byte-does : (b : ℕ) → heard (m .receiver) ≡ hearing s → byKind m b buffer place (kind b) .outcome .meter ≡ nextOf m s (byte b place buffer)
+  byte-does : (b : ℕ) → heard (m .receiver) ≡ hearing s → byKind m (takes m b) buffer place (kind b) .outcome .meter ≡ nextOf m s (byte b place buffer)
   unfolding kind
-  byte-does b e = kind-does b (ends b) (drops b) e
+  byte-does b e = kind-does (next (m .receiver) b) (ends b) (drops b) e
 
 -- ── an event ──
 

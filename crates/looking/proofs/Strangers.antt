@@ -15,7 +15,7 @@ use Rattle.exact.proofs.Z.{either, eqZ-true}
 use Rattle.config.specs.Config.{judged}
 use Rattle.config.specs.declared.Config.{Config}
 use Rattle.config.specs.declared.Verdict.the-variants.{Accepted}
-use Rattle.receiver.specs.Receiver.{bytes, too-long, ends, drops, limit, over, kind, store, heard}
+use Rattle.receiver.specs.Receiver.{bytes, too-long, ends, drops, limit, over, kind, heard}
 use Rattle.receiver.specs.Since.{ending, hearing}
 use Rattle.receiver.specs.declared.Kind.the-variants.{End, Drop, Part}
 use Rattle.command.specs.Addressed as addresses
@@ -37,8 +37,9 @@ use Rattle.effect.specs.declared.Settled.{Settled}
 use Rattle.answer.specs.Answer.{number}
 use Rattle.answer.specs.declared.Answer.the-variants.{Done, Stored, OtherNode, Dropped, TooLong, UnknownKey, NotStarted}
 use Rattle.meter.specs.Door.{sound, hears, reachOf}
-use Rattle.meter.specs.Meter.{outcome, Step, step, withReceiver, emptied, settledIn, byKind, received}
+use Rattle.meter.specs.Meter.{outcome, Step, step, takes, settledIn, byKind, received}
 use Rattle.meter.specs.declared.Meter.{Meter}
+use Rattle.promises.specs.Rows.{emptied}
 use Rattle.promises.proofs.Door.{stands-open, keyed-in, received-in, received-as, endedAs, at-end}
 use Rattle.looking.specs.History.{Event, sample, key, byte, History, outcomeOf, meterAfter, nodeOf, half}
 use Rattle.looking.specs.Kept.{prints}
@@ -119,17 +120,17 @@ module _ (m : Meter) (s : List ℕ) (buffer : List ℕ) (place : ℕ) where
   drawn-end true q e = absurd (omega arith)
   drawn-end false q e = (ltb-false limit (length s) q, drawn-parsed (m .config) (m .instrument) buffer place s (parse s) refl e)
 
-  drawn-kind : (b : ℕ) (t u : Bool) → heard (m .receiver) ≡ hearing s
-      → number (byKind m b buffer place (cond t End (cond u Drop Part)) .outcome .answer) ≡ 2
+  drawn-kind : (n : Meter) (t u : Bool) → heard (m .receiver) ≡ hearing s
+      → number (byKind m n buffer place (cond t End (cond u Drop Part)) .outcome .answer) ≡ 2
       → (t ≡ true) × (length s ≤ 32) × ((a : Asked) × Reads s (nodeOf (m .config)) a)
-  drawn-kind b true u h e = let d = drawn-end (over (length s)) refl (rw (at-end m (hearing s) h) at e) in (refl, d .0, d .1)
-  drawn-kind b false true h e = absurd (omega arith)
-  drawn-kind b false false h e = absurd (omega arith)
+  drawn-kind n true u h e = let d = drawn-end (over (length s)) refl (rw (at-end m (hearing s) h) at e) in (refl, d .0, d .1)
+  drawn-kind n false true h e = absurd (omega arith)
+  drawn-kind n false false h e = absurd (omega arith)
 
-  drawn-byte : (b : ℕ) → heard (m .receiver) ≡ hearing s → number (byKind m b buffer place (kind b) .outcome .answer) ≡ 2
+  drawn-byte : (b : ℕ) → heard (m .receiver) ≡ hearing s → number (byKind m (takes m b) buffer place (kind b) .outcome .answer) ≡ 2
       → (ends b ≡ true) × (length s ≤ 32) × ((a : Asked) × Reads s (nodeOf (m .config)) a)
   unfolding kind
-  drawn-byte b h e = drawn-kind b (ends b) (drops b) h e
+  drawn-byte b h e = drawn-kind (takes m b) (ends b) (drops b) h e
 
 sample-silent : (t : Bool) (m n : Meter) → number (cond t (outcome Done m) (outcome NotStarted n) .answer) ≢ 2
 sample-silent true m n e = omega arith
@@ -146,8 +147,8 @@ module _ (c : Config) (accepted : judged c ≡ Accepted) where
   node-after h = ap nodeOf (config-after c accepted h)
 
   pub coming-in : (h : History) (b place : ℕ) (buffer : List ℕ) → ending b ≡ false
-      → received (meterAfter c h) b buffer place ≡ step Stored (withReceiver (meterAfter c h) (store (meterAfter c h .receiver) b)) buffer
-  coming-in h b place buffer e = received-as (meterAfter c h) buffer place b Part (part-kind b e) (stands-open (meterAfter c h) hears (sound-after c accepted h))
+      → received (meterAfter c h) b buffer place ≡ step Stored (takes (meterAfter c h) b) buffer
+  coming-in h b place buffer e = received-as (meterAfter c h) buffer place b Part (part-kind b e) (stands-open (meterAfter c h) hears (sound-after c accepted h)) ∙ rw (part-kind b e)
 
   pub dropping : (h : History) (b place : ℕ) (buffer : List ℕ) → drops b ≡ true → received (meterAfter c h) b buffer place ≡ step Dropped (emptied (meterAfter c h)) buffer
   dropping h b place buffer e = received-as (meterAfter c h) buffer place b Drop (drop-kind b e) (stands-open (meterAfter c h) hears (sound-after c accepted h))

@@ -10,7 +10,7 @@ use lib.ListN.{length}
 use Rattle.total.specs.Total.{shown}
 use Rattle.config.specs.declared.Config.{Config}
 use Rattle.register.specs.Registers.{count}
-use Rattle.receiver.specs.Receiver.{ends, drops, over, store}
+use Rattle.receiver.specs.Receiver.{ends, drops, over}
 use Rattle.receiver.specs.Since.{ending}
 use Rattle.command.specs.Addressed.{addressed}
 use Rattle.command.specs.declared.Asked.{Asked}
@@ -21,10 +21,10 @@ use Rattle.outputs.specs.declared.Mode.the-variants.{Automatic, Manual}
 use Rattle.instrument.specs.declared.Instrument.{Instrument}
 use Rattle.effect.specs.Reply.{printReply}
 use Rattle.answer.specs.Answer.{number}
-use Rattle.meter.specs.Meter.{Step, step, withReceiver, emptied, received, keyed}
+use Rattle.meter.specs.Meter.{Step, step, takes, received, keyed}
 use Rattle.answer.specs.declared.Answer.the-variants.{Stored, OtherNode, Dropped, TooLong}
 use Rattle.looking.specs.History.{Event, sample, key, byte, History, outcomeOf, meterAfter, nodeOf, half}
-use Rattle.promises.specs.Rows.{Room}
+use Rattle.promises.specs.Rows.{Room, emptied}
 use Rattle.looking.specs.Kept.{Entry, measured, pressed, told, kept}
 use Rattle.looking.specs.Given.{given}
 use Rattle.looking.specs.Sent.{sending, Sent, Reads, tString, pString, replyTo, shownBy}
@@ -103,7 +103,7 @@ pub record Looking (c : Config) : Type 0 where
   -- 5. a string for another node, of good form or bad, changes nothing but the receiver and draws no reply: not while it comes in, not
   -- where CR or LF drops it,
   pub coming-in : (h : History) (b place : ℕ) (buffer : List ℕ) → ending b ≡ false
-      → received (meterAfter c h) b buffer place ≡ step Stored (withReceiver (meterAfter c h) (store (meterAfter c h .receiver) b)) buffer
+      → received (meterAfter c h) b buffer place ≡ step Stored (takes (meterAfter c h) b) buffer
   pub dropping : (h : History) (b place : ℕ) (buffer : List ℕ) → drops b ≡ true → received (meterAfter c h) b buffer place ≡ step Dropped (emptied (meterAfter c h)) buffer
   -- and not where it ends
   pub other-node : (h : History) (n b place : ℕ) (buffer : List ℕ) → ends b ≡ true → addressed (half h) ≡ some n → n ≢ nodeOf c
