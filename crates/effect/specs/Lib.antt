@@ -2,3 +2,4 @@ pub mod Reply
 pub mod Values
 pub mod Effect
 pub mod Able
+pub mod Prints
