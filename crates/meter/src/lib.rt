@@ -148,7 +148,14 @@ impl Meter {
                 if is_sound(self) {
                     let talking = self.config.talking;
                     let working = self.config.working;
-                    let s = end(talking, working, self.instrument, self.receiver, buffer, place);
+                    let s = end(
+                        talking,
+                        working,
+                        self.instrument,
+                        self.receiver,
+                        buffer,
+                        place,
+                    );
                     let instrument = s.instrument;
                     answer = s.answer;
                     self.instrument = instrument;

@@ -20,6 +20,7 @@ use Rattle.promises.proofs.Door.{stands-open}
 use Rattle.promises.proofs.Answers.{numbered, sound-never-12}
 use Rattle.promises.proofs.StaysSound.{stays-sound}
 use Rattle.promises.proofs.Rows.{power-up-rows, event-rows, shut}
+use Rattle.promises.proofs.Exactly.{exactly}
 use Rattle.promises.proofs.Leaves.{buffer-fine, leaves}
 
 -- a step by its two halves
@@ -52,6 +53,7 @@ demand-1 =
       numbered = numbered;
       power-up-rows = power-up-rows;
       event-rows = event-rows;
+      exactly = exactly;
       buffer = buffer-fine;
       leaves = leaves;
       shut = shut;

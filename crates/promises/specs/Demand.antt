@@ -8,6 +8,7 @@ use Rattle.meter.specs.Meter.{Step}
 use Rattle.meter.specs.declared.Meter.{Meter}
 use Rattle.promises.specs.Calls.{Call, lent, placeOf, result, Allows, answered, possible}
 use Rattle.promises.specs.Rows.{EventRows, PowerUpRows}
+use Rattle.promises.specs.Exactly.{Exactly}
 use Rattle.promises.specs.Leaves.{Buffer, Leaves}
 use Rattle.promises.specs.Started.{Shut, StaysSound, Reached, Never12, Places}
 
@@ -19,6 +20,8 @@ pub record Demand1 : Type 0 where
   -- the table of answers, row by row
   pub power-up-rows : (c : Config) → PowerUpRows c
   pub event-rows : (m : Meter) (buffer : List ℕ) (place : ℕ) → EventRows m buffer place
+  -- and backwards: the rows cover every call and exclude each other, so each answer comes exactly where its row says
+  pub exactly : Exactly
   -- what is left as it was
   pub buffer : (k : Call) → Buffer (lent k) (placeOf k) (result k)
   pub leaves : (m : Meter) → Leaves m

@@ -1,5 +1,6 @@
 pub mod Calls
 pub mod Rows
 pub mod Leaves
+pub mod Exactly
 pub mod Started
 pub mod Demand
