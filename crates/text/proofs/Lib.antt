@@ -4,3 +4,4 @@ pub mod Lines
 pub mod Streams
 pub mod Cases
 pub mod Waits
+pub mod Pieces

@@ -3,13 +3,14 @@
 use mathlib.Core.Path.{_≡_, refl, sym, ap, _∙_}
 use mathlib.Core.Bool.{Bool, true, false, cond}
 use mathlib.Core.List.{List, [], _∷_, _++_}
-use Prim.Native.Nat.{ℕ, _+_, _-_}
-use lib.Dec.{eqb}
+use Prim.Native.Nat.{ℕ, _+_, _-_, _≤_}
+use native.Mathlib.Omega.{arith}
+use lib.Dec.{leb, eqb}
 use lib.ListN.{length, take, drop}
-use lib.Seq.{drop-length, drop-drop}
-use borrow.Author.Tests.{eq-eqb, ne-eqb}
+use lib.Seq.{drop-length, drop-drop, length-take-le}
+use borrow.Author.Tests.{eq-eqb, ne-eqb, leb-true, leb-false}
 use Rattle.exact.proofs.Z.{never}
-use Rattle.text.specs.Line.{Scanned, scan, Heard, heard, kept, before, after, has, Feeds, Cut, cut, lines, countAfter, Stands, ran, Carried, stepped, finished}
+use Rattle.text.specs.Line.{keptBytes, Scanned, scan, Heard, bytes, long, heard, kept, before, after, has, Feeds, Cut, cut, lines, unended, allLines, countAfter, Stands, ran, Carried, Turned, Streamed, stepped, finished}
 use Rattle.text.specs.declared.Step.{Step}
 use Rattle.text.proofs.Laws.{rest}
 use Rattle.text.proofs.Lines.{feeds, empty-kept, cut-ended, cut-open, cut-blocks, cut-behind}
@@ -22,6 +23,32 @@ after-none x (b ∷ s) e = go (eqb b x) (after-none x s) e
     go : (t : Bool) → (has x s ≡ false → after x s ≡ []) → cond t true (has x s) ≡ false → cond t s (after x s) ≡ []
     go true next e = never (sym e)
     go false next e = next e
+
+-- ---- a line of no bytes has the count 0, and no other line has
+
+abbrev sizeOf : Heard → ℕ
+sizeOf (bytes l) = length l
+sizeOf long = keptBytes + 1
+
+heard-empty : (line : List ℕ) (len : ℕ) → length line ≡ keptBytes → sizeOf (heard line len) ≡ 0 → len ≡ 0
+unfolding heard
+heard-empty line len h e = go (leb len keptBytes) refl e
+  where
+    go : (t : Bool) → leb len keptBytes ≡ t → sizeOf (cond t (bytes (take len line)) long) ≡ 0 → len ≡ 0
+    go true p e =
+        let k : len ≤ length line = omega (arith, leb-true len keptBytes p) in
+        sym (length-take-le len line k) ∙ e
+    go false p e = absurd (omega arith)
+
+kept-empty : (l : List ℕ) → sizeOf (kept l) ≡ 0 → length l ≡ 0
+unfolding kept
+kept-empty l e = go (leb (length l) keptBytes) e
+  where
+    go : (t : Bool) → sizeOf (cond t (bytes l) long) ≡ 0 → length l ≡ 0
+    go true e = e
+    go false e = absurd (omega arith)
+
+-- ---- a program's state
 
 module _ {A : Type 0} (event : A → Heard → A) where
   ran-append : (a : A) (d e : List (List ℕ)) → ran event a (d ++ e) ≡ ran event (ran event a d) e
@@ -134,3 +161,36 @@ module _ {A : Type 0} (event : A → Heard → A) where
             ∙ sym (ran-append a (lines l s .done) (lines (lines l s .since) t .done)) ∙ ap (λ (y : Cut). ran event a (y .done)) (sym e);
         stands = rw e (q .stands);
       }
+
+  -- a read that gave nothing
+  pub none-came : (line : List ℕ) (len : ℕ) (a : A) → Carried event [] line len a a line len
+  none-came line len a = ends refl (begins [] line len a)
+
+  -- reads one after another
+  pub no-reads : (line : List ℕ) (len : ℕ) (a : A) → Streamed event line len a a line len
+  no-reads line len a = record { stream = []; carries = none-came line len a }
+
+  pub reads-on : {block line line' line'' : List ℕ} {len len' len'' : ℕ} {a b c : A}
+      → Streamed event line len a b line' len'
+      → Turned event block line' len' b c line'' len''
+      → Streamed event line len a c line'' len''
+  reads-on {block} s t = record { stream = s .stream ++ take (t .count) block; carries = joined (s .carries) (t .carries) }
+
+  -- the line that is open at the end
+  last-one : (a : A) (l line : List ℕ) (len : ℕ) → Stands l line len → finished event a line len ≡ ran event a (unended l)
+  unfolding ran heard kept
+  last-one a [] line len h = sym (last-none a line len (heard-empty line len (h .size) (ap sizeOf (h .keeps))))
+  last-one a (b ∷ s) line len h = sym (last-line a line len some) ∙ ap (event a) (h .keeps)
+    where
+      some : len ≡ 0 → ⊥
+      some z = omega (arith, kept-empty (b ∷ s) (ap sizeOf (sym (h .keeps) ∙ ap (heard line) z)))
+
+  -- from an empty line to the end: the state is that of every line of the stream
+  pub whole : {line line' : List ℕ} {len' : ℕ} {a b : A} → length line ≡ keptBytes
+      → (s : Streamed event line 0 a b line' len') → finished event b line' len' ≡ ran event a (allLines (s .stream))
+  unfolding allLines
+  whole {line} {line'} {len'} {a} {b} h s =
+      let r = s .carries [] (record { keeps = empty-kept line; size = h }) in
+      last-one b (lines [] (s .stream) .since) line' len' (r .stands)
+      ∙ ap (λ (x : A). ran event x (unended (lines [] (s .stream) .since))) (r .state)
+      ∙ sym (ran-append a (lines [] (s .stream) .done) (unended (lines [] (s .stream) .since)))

@@ -2,3 +2,4 @@ pub mod Line
 pub mod Number
 pub mod Word
 pub mod Output
+pub mod Numeral

@@ -92,6 +92,15 @@ cut x c (b ∷ s) = cut x (cutAt x c b) s
 abbrev pub lines : List ℕ → List ℕ → Cut
 lines l block = cut 10 (record { done = []; since = l }) block
 
+-- a line that no LF ends counts, where it has a byte
+abbrev pub unended : List ℕ → List (List ℕ)
+unended [] = []
+unended (b ∷ s) = (b ∷ s) ∷ []
+
+-- every line of a whole stream
+unfoldable pub allLines : List ℕ → List (List ℕ)
+allLines stream = lines [] stream .done ++ unended (lines [] stream .since)
+
 -- the count of the line that is read on after a step
 unfoldable pub countAfter : Step → ℕ
 countAfter f = cond (f .ended) 0 (f .len)
@@ -115,6 +124,17 @@ module _ {A : Type 0} (event : A → Heard → A) where
   -- the same after whatever bytes the array and its count stood for
   abbrev pub Carried : (block line : List ℕ) (len : ℕ) (a a' : A) (line' : List ℕ) (len' : ℕ) → Type 0
   Carried block line len a a' line' len' = (l : List ℕ) → Stands l line len → Ran block l a a' line' len'
+
+  -- one read: the block's first bytes, as many as came
+  pub record Turned (block line : List ℕ) (len : ℕ) (a a' : A) (line' : List ℕ) (len' : ℕ) : Type 0 where
+    pub count : ℕ
+    pub within : count ≤ length block
+    pub carries : Carried (take count block) line len a a' line' len'
+
+  -- any number of reads: the bytes that came, one block after another
+  pub record Streamed (line : List ℕ) (len : ℕ) (a a' : A) (line' : List ℕ) (len' : ℕ) : Type 0 where
+    pub stream : List ℕ
+    pub carries : Carried stream line len a a' line' len'
 
   -- after a step of a line: its event, where it ended
   unfoldable pub stepped : A → List ℕ → Step → A
