@@ -1,3 +1,4 @@
 pub mod Sayings
 pub mod Cases
 pub mod Stream
+pub mod Pieces

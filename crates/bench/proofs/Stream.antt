@@ -7,13 +7,16 @@ use lib.IntN.{ℤ}
 use lib.ListN.{length, take, drop, getD}
 use lib.Seq.{drop-cons, drop-length}
 use Rattle.text.specs.Line.{keptBytes, Heard, bytes, long, heard}
+use Rattle.text.specs.Output.{Waiting, puts}
 use Rattle.text.proofs.Lines.{heard-is}
 use Rattle.meter.specs.Meter.{Step, sampled}
 use Rattle.meter.specs.declared.Meter.{Meter}
 use Rattle.meter.specs.declared.Outcome.{Outcome}
 use Rattle.bench.specs.Grammar.{judged}
-use Rattle.bench.specs.Bench.{sampleStep, byteStep, bytesOn, asTold, answered, effectBy, effect}
+use Rattle.bench.specs.Show.{shownOf}
+use Rattle.bench.specs.Bench.{sampleStep, byteStep, bytesOn, asTold, answered, effectBy, effect, stand, standAfter, heardBy}
 use Rattle.bench.specs.declared.grammar.Parsed.{Parsed}
+use Rattle.bench.specs.declared.Told.{Told}
 
 -- ---- a sample, whose outcome touches no reply
 
@@ -56,3 +59,11 @@ effects m reply long p e = ap (effectBy m reply []) e
 
 pub text-is : (line : List ℕ) (len : ℕ) → len ≤ keptBytes → textOf (heard line len) ≡ take len line
 text-is line len h = ap textOf (heard-is line len h)
+
+-- what is printed leaves the meter and the reply as the event left them
+pub told-stand : (m : Meter) (reply : List ℕ) (out : Waiting) (h : Heard) (t : Told) (l : List ℕ) (v : Waiting)
+    → t ≡ effect m reply h .told → l ≡ effect m reply h .reply → v ≡ puts out (shownOf (t .said) l)
+    → stand (t .meter) l v ≡ heardBy (stand m reply out) h
+unfolding heardBy
+told-stand m reply out h t l v p q w =
+    ap (stand (t .meter) l) w ∙ ap₂ (λ (t : Told) (l : List ℕ). standAfter out (record { told = t; reply = l })) p q

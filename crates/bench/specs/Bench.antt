@@ -1,16 +1,21 @@
--- What a line does to the meter and its reply buffer, and what it is told.
+-- What a line does to the meter and its reply buffer, and what is printed of it.
 use Prim.Native.Nat.{ℕ}
+use mathlib.Core.Bool.{true}
 use mathlib.Core.List.{List, [], _∷_}
 use lib.IntN.{ℤ}
-use lib.ListN.{drop, getD}
-use Rattle.text.specs.Line.{Heard, bytes, long}
-use Rattle.meter.specs.Meter.{Step, sampled, keyed, received}
+use lib.ListN.{drop, getD, replicate}
+use Rattle.text.specs.Line.{Heard, bytes, long, allLines, ran}
+use Rattle.text.specs.Output.{Waiting, waiting, puts}
+use Rattle.config.specs.Bench.{benchMeter}
+use Rattle.meter.specs.Meter.{Step, poweredUp, sampled, keyed, received}
 use Rattle.meter.specs.declared.Meter.{Meter}
 use Rattle.meter.specs.declared.Outcome.{Outcome}
 use Rattle.bench.specs.Grammar.{parsed}
+use Rattle.bench.specs.Show.{shownOf}
 use Rattle.bench.specs.declared.grammar.Parsed.{Parsed}
 use Rattle.bench.specs.declared.grammar.Parsed.the-variants.{Sample, Key, Bytes, Bad}
 use Rattle.bench.specs.declared.Said.the-variants.{Answered, Unknown}
+use Rattle.bench.specs.declared.State.{State}
 use Rattle.bench.specs.declared.Told.{Told}
 
 -- ---- events, each at place 0 of the reply buffer
@@ -62,13 +67,29 @@ effect m reply long = unknown m reply
 
 -- ---- the stream
 
--- what goes on from line to line
+-- what goes on from line to line: the meter, its reply buffer, and what waits to be written
 pub record Stand : Type 0 where
   pub meter : Meter
   pub reply : List ℕ
+  pub out : Waiting
 
-abbrev pub stand : Meter → List ℕ → Stand
-stand m reply = record { meter = m; reply = reply }
+abbrev pub stand : Meter → List ℕ → Waiting → Stand
+stand m reply out = record { meter = m; reply = reply; out = out }
+
+-- where the program stands, with the room for what waits
+abbrev pub standing : State → List ℕ → List ℕ → Stand
+standing s reply room = stand (s .meter) reply (waiting (s .out .at) room)
+
+abbrev pub standAfter : Waiting → Effect → Stand
+standAfter out x = stand (x .told .meter) (x .reply) (puts out (shownOf (x .told .said) (x .reply)))
 
 unfoldable pub heardBy : Stand → Heard → Stand
-heardBy s h = stand (effect (s .meter) (s .reply) h .told .meter) (effect (s .meter) (s .reply) h .reply)
+heardBy s h = standAfter (s .out) (effect (s .meter) (s .reply) h)
+
+-- where it starts: document 01's bench meter, no byte of a line, and nothing that waits
+abbrev pub begun : State
+begun = record { meter = poweredUp benchMeter .meter; len = 0; out = record { at = 0; ok = true } }
+
+-- what waits after a whole stream, where the longest reply has room
+abbrev pub printedOf : List ℕ → List ℕ → Waiting
+printedOf room stream = ran heardBy (standing begun (replicate 163 0) room) (allLines stream) .out

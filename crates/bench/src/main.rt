@@ -4,12 +4,15 @@
 // Standard input is read in blocks, and standard output written in blocks, so the memory is the same for any input.
 mod grammar;
 
-ghost use Prim.Native.Nat.{_<_};
+ghost use Prim.Native.Nat.{ℕ, _≤_, _<_};
 ghost use mathlib.Core.Path.{_≡_};
+ghost use mathlib.Core.List.{List};
 ghost use lib.ListN.{length, drop, take};
-ghost use Rattle.text.specs.Line.{heard, countAfter, Carried, stepped, finished};
+ghost use Rattle.text.specs.Line.{heard, goesOn, countAfter, Carried, Turned, Streamed, stepped, finished};
+ghost use Rattle.text.specs.Output.{waiting, puts};
 ghost use Rattle.bench.specs.Grammar.{Payload};
-ghost use Rattle.bench.specs.Bench.{keyStep, byteStep, bytesStep, asTold, effect, stand, heardBy};
+ghost use Rattle.bench.specs.Show.{numberLine, replyPieces, answerPieces, shownOf};
+ghost use Rattle.bench.specs.Bench.{keyStep, byteStep, bytesStep, asTold, effect, standing, heardBy, begun, printedOf};
 use answer::Answer;
 use grammar::Parsed;
 use libc::STDERR_FILENO;
@@ -117,30 +120,37 @@ fn event(m: Meter, line: &[u8; KEPT], len: usize, reply: &mut [u8]) -> Told
 // ---- what is printed
 
 // Puts a number and an LF.
-fn put_number(buf: &mut [u8], o: Out, n: u64) -> Out {
-    let mut digits = [0u8; 20];
-    let k = io::decimal(n, &mut digits);
-    let p = text::output::put(&mut *buf, o, &digits[..k]);
+fn put_number(buf: &mut [u8], o: Out, n: u64) -> Out
+    ensures { λ r. ⌜ waiting (r .at) (now (buf .exit)) ≡ puts (waiting (o .at) (now (buf .entry))) (numberLine n) ⌝ }
+{
+    let p = text::output::put_natural(&mut *buf, o, n);
     text::output::put(&mut *buf, p, b"\n")
 }
 
 // Puts the first n bytes of the reply, of which there are as many.
-fn put_reply(buf: &mut [u8], o: Out, reply: &[u8], n: usize) -> Out {
+fn put_reply(buf: &mut [u8], o: Out, reply: &[u8], n: usize) -> Out
+    ensures { λ r. ⌜ waiting (r .at) (now (buf .exit)) ≡ puts (waiting (o .at) (now (buf .entry))) (replyPieces n (now (reply .entry))) ⌝ }
+{
     if n <= reply.len() {
         return text::output::put(buf, o, &reply[0..n]);
     }
     o
 }
 
-fn put_answer(buf: &mut [u8], o: Out, reply: &[u8], a: Answer) -> Out {
-    let p = put_number(&mut *buf, o, answer::number(a));
-    if let Answer::Replied(n) = a {
-        return put_reply(&mut *buf, p, reply, n);
+fn put_answer(buf: &mut [u8], o: Out, reply: &[u8], a: Answer) -> Out
+    ensures { λ r. ⌜ waiting (r .at) (now (buf .exit)) ≡ puts (waiting (o .at) (now (buf .entry))) (answerPieces a (now (reply .entry))) ⌝ }
+{
+    let number = answer::number(a);
+    let p = put_number(&mut *buf, o, number);
+    if number == 2 {
+        return put_reply(&mut *buf, p, reply, answer::value(a) as usize);
     }
     p
 }
 
-fn put_said(buf: &mut [u8], o: Out, reply: &[u8], said: Said) -> Out {
+fn put_said(buf: &mut [u8], o: Out, reply: &[u8], said: Said) -> Out
+    ensures { λ r. ⌜ waiting (r .at) (now (buf .exit)) ≡ puts (waiting (o .at) (now (buf .entry))) (shownOf said (now (reply .entry))) ⌝ }
+{
     match said {
         Said::Answered(a) => put_answer(buf, o, reply, a),
         Said::Unknown => text::output::put(buf, o, b"?\n"),
@@ -152,7 +162,7 @@ fn put_said(buf: &mut [u8], o: Out, reply: &[u8], said: Said) -> Out {
 // After a step of the line: the event, where it ended.
 fn stepped(line: &[u8; KEPT], reply: &mut [u8], buf: &mut [u8], s: State, f: Step) -> State
     ensures { λ r. ⌜ r .len ≡ countAfter f ⌝ }
-    ensures { λ r. ⌜ stand (r .meter) (now (reply .exit)) ≡ stepped heardBy (stand (s .meter) (now (reply .entry))) (now (line .entry)) f ⌝ }
+    ensures { λ r. ⌜ standing r (now (reply .exit)) (now (buf .exit)) ≡ stepped heardBy (standing s (now (reply .entry)) (now (buf .entry))) (now (line .entry)) f ⌝ }
 {
     if f.ended {
         return answered(line, f.len, reply, buf, s);
@@ -165,7 +175,7 @@ fn stepped(line: &[u8; KEPT], reply: &mut [u8], buf: &mut [u8], s: State, f: Ste
 // A line that has ended: its event, and what it is told.
 fn answered(line: &[u8; KEPT], len: usize, reply: &mut [u8], buf: &mut [u8], s: State) -> State
     ensures { λ r. ⌜ r .len ≡ 0 ⌝ }
-    ensures { λ r. ⌜ stand (r .meter) (now (reply .exit)) ≡ heardBy (stand (s .meter) (now (reply .entry))) (heard (now (line .entry)) len) ⌝ }
+    ensures { λ r. ⌜ standing r (now (reply .exit)) (now (buf .exit)) ≡ heardBy (standing s (now (reply .entry)) (now (buf .entry))) (heard (now (line .entry)) len) ⌝ }
 {
     let t = event(s.meter, line, len, &mut *reply);
     let said = t.said;
@@ -176,7 +186,7 @@ fn answered(line: &[u8; KEPT], len: usize, reply: &mut [u8], buf: &mut [u8], s: 
 
 // The lines that a block ends, and the start of the one that it leaves open.
 fn lines(block: &[u8], line: &mut [u8; KEPT], reply: &mut [u8], buf: &mut [u8], s: State) -> State
-    ensures { λ r. ⌜ Carried heardBy (now (block .entry)) (now (line .entry)) (s .len) (stand (s .meter) (now (reply .entry))) (stand (r .meter) (now (reply .exit))) (now (line .exit)) (r .len) ⌝ }
+    ensures { λ r. ⌜ Carried heardBy (now (block .entry)) (now (line .entry)) (s .len) (standing s (now (reply .entry)) (now (buf .entry))) (standing r (now (reply .exit)) (now (buf .exit))) (now (line .exit)) (r .len) ⌝ }
 {
     let mut t = s;
     let mut at = 0;
@@ -188,16 +198,19 @@ fn lines(block: &[u8], line: &mut [u8; KEPT], reply: &mut [u8], buf: &mut [u8], 
     t
 }
 
-// Reads once, and does what came. A read that fails ends the input, and so does a write that fails.
-fn one_turn(
-    block: &mut [u8],
+// What came, the first n bytes of a block. Where nothing came the input has ended, and where a write failed it is read no further.
+fn came(
+    block: &[u8],
+    n: usize,
     line: &mut [u8; KEPT],
     reply: &mut [u8],
     buf: &mut [u8],
     s: State,
-) -> Turn {
-    let got = libc::read(STDIN_FILENO, &mut *block);
-    let n = io::count(got, &*block);
+) -> Turn
+    requires { ⌜ n ≤ length (now block) ⌝ }
+    ensures { λ r. ⌜ Carried heardBy (take n (now (block .entry))) (now (line .entry)) (s .len) (standing s (now (reply .entry)) (now (buf .entry))) (standing (r .state) (now (reply .exit)) (now (buf .exit))) (now (line .exit)) (r .state .len) ⌝ }
+    ensures { λ r. ⌜ r .more ≡ goesOn n (r .state .out .ok) ⌝ }
+{
     if n == 0 {
         return Turn {
             state: s,
@@ -212,9 +225,24 @@ fn one_turn(
     }
 }
 
+// Reads once, and does what came. A read that fails gives nothing.
+fn one_turn(
+    block: &mut [u8],
+    line: &mut [u8; KEPT],
+    reply: &mut [u8],
+    buf: &mut [u8],
+    s: State,
+) -> Turn
+    ensures { λ r. ⌜ Turned heardBy (now (block .exit)) (now (line .entry)) (s .len) (standing s (now (reply .entry)) (now (buf .entry))) (standing (r .state) (now (reply .exit)) (now (buf .exit))) (now (line .exit)) (r .state .len) ⌝ }
+{
+    let got = libc::read(STDIN_FILENO, &mut *block);
+    let n = io::count(got, &*block);
+    came(&*block, n, &mut *line, &mut *reply, &mut *buf, s)
+}
+
 // A last line that no LF ends counts, where it has a byte.
 fn end(line: &[u8; KEPT], reply: &mut [u8], buf: &mut [u8], s: State) -> State
-    ensures { λ r. ⌜ stand (r .meter) (now (reply .exit)) ≡ finished heardBy (stand (s .meter) (now (reply .entry))) (now (line .entry)) (s .len) ⌝ }
+    ensures { λ r. ⌜ standing r (now (reply .exit)) (now (buf .exit)) ≡ finished heardBy (standing s (now (reply .entry)) (now (buf .entry))) (now (line .entry)) (s .len) ⌝ }
 {
     if s.len == 0 {
         return s;
@@ -230,7 +258,9 @@ fn run(
     reply: &mut [u8],
     buf: &mut [u8],
     s: State,
-) -> State {
+) -> State
+    ensures { λ r. ⌜ Streamed heardBy (now (line .entry)) (s .len) (standing s (now (reply .entry)) (now (buf .entry))) (standing r (now (reply .exit)) (now (buf .exit))) (now (line .exit)) (r .len) ⌝ }
+{
     let mut t = Turn {
         state: s,
         more: true,
@@ -243,21 +273,35 @@ fn run(
     t.state
 }
 
-fn main() {
+// The bench meter, no byte of a line, and nothing that waits.
+fn begun() -> State
+    ensures { λ r. ⌜ r ≡ begun ⌝ }
+{
     let o = Meter::power_up(config::bench());
     let meter = o.meter;
-    let mut block = io::large_buffer();
-    let mut line = [0u8; KEPT];
-    let mut reply = [0u8; 163];
-    let mut buf = io::large_buffer();
-    let begun = State {
+    State {
         meter,
         len: 0,
         out: Out { at: 0, ok: true },
-    };
-    let s = run(&mut block, &mut line, &mut reply, &mut buf, begun);
-    let e = end(&line, &mut reply, &mut buf, s);
-    let out = text::output::flush(&buf, e.out);
+    }
+}
+
+// The whole of standard input, whatever it is: what waits is what is printed of all its lines.
+fn played(block: &mut [u8], buf: &mut [u8]) -> Out
+    ensures { λ r. ⌜ ((stream : List ℕ) × (waiting (r .at) (now (buf .exit)) ≡ printedOf (now (buf .entry)) stream)) ⌝ }
+{
+    let mut line = [0u8; KEPT];
+    let mut reply = [0u8; 163];
+    let s = run(&mut *block, &mut line, &mut reply, &mut *buf, begun());
+    let e = end(&line, &mut reply, &mut *buf, s);
+    e.out
+}
+
+fn main() {
+    let mut block = io::large_buffer();
+    let mut buf = io::large_buffer();
+    let o = played(&mut block, &mut buf);
+    let out = text::output::flush(&buf, o);
     if !out.ok {
         io::write_all(STDERR_FILENO, b"a write failed\n");
     }

@@ -9,9 +9,10 @@ use Rattle.exact.specs.Sign.{minus}
 use Rattle.answer.specs.declared.Answer.the-variants.{Done, Replied, Refused, NotStarted}
 use Rattle.extremes.specs.Extremes as extremes
 use Rattle.register.specs.Bytes.{ascii}
+use Rattle.text.specs.Numeral.{fewest, numeral}
 use Rattle.total.specs.Total as total
 use Rattle.meter.specs.Meter.{notStarted}
-use Rattle.replay.specs.Show.{fewest, numeral, signed, named, counted, hex, powerLine, readingWord, quotientOf, totalWords, trimmed, bufferWords, extremeWords, measuredWords, setpointWords, stateWords, runWords, alarmWords, modeWords, outputWords, receivedWords, meterWords, eventLine}
+use Rattle.replay.specs.Show.{signed, named, counted, hex, powerLine, readingWord, quotientOf, totalWords, trimmed, bufferWords, extremeWords, measuredWords, setpointWords, stateWords, runWords, alarmWords, modeWords, outputWords, receivedWords, meterWords, eventLine}
 
 -- pieces as one text
 abbrev whole : List (List ℕ) → List ℕ

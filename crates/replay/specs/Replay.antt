@@ -1,13 +1,14 @@
 -- What a line does to the meter and its buffer, and what is shown of it.
 use Prim.Native.Nat.{ℕ}
+use mathlib.Core.Bool.{true}
 use mathlib.Core.List.{List, [], _∷_, _++_}
 use lib.IntN.{ℤ}
 use lib.ListN.{length, replicate}
-use Rattle.text.specs.Line.{Heard}
+use Rattle.text.specs.Line.{Heard, allLines, ran}
 use Rattle.text.specs.Output.{Waiting, waiting, puts}
 use Rattle.register.specs.Bytes.{ascii}
 use Rattle.config.specs.declared.Config.{Config}
-use Rattle.meter.specs.Meter.{Step, poweredUp, sampled, keyed, received}
+use Rattle.meter.specs.Meter.{Step, notStarted, poweredUp, sampled, keyed, received}
 use Rattle.meter.specs.declared.Meter.{Meter}
 use Rattle.meter.specs.declared.Outcome.{Outcome}
 use Rattle.record.specs.Record.{eventHeard, readHeard}
@@ -102,3 +103,11 @@ standAfter out x = stand (x .told .meter) (x .buffer) (puts out (printed x))
 
 unfoldable pub heardBy : Stand → Heard → Stand
 heardBy s h = standAfter (s .out) (effect (s .meter) (s .buffer) h)
+
+-- where it starts: a meter not started, no byte of a line, and nothing that waits
+abbrev pub begun : State
+begun = record { meter = notStarted; len = 0; out = record { at = 0; ok = true } }
+
+-- what waits after a whole stream, from a buffer of 170 bytes EE on
+abbrev pub printedOf : List ℕ → List ℕ → Waiting
+printedOf room stream = ran heardBy (standing begun (replicate 170 0xEE) room) (allLines stream) .out

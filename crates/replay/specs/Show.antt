@@ -1,16 +1,17 @@
 -- What is printed of a line, piece by piece.
-use Prim.Native.Nat.{ℕ, zero, suc, _+_, _/_, _%_, _^_}
+use Prim.Native.Nat.{ℕ, _/_, _%_}
 use mathlib.Core.Bool.{Bool, cond}
 use mathlib.Core.List.{List, [], _∷_, _++_, map}
-use lib.Dec.{ltb, eqb}
+use lib.Dec.{eqb}
 use lib.IntN.{ℤ, pos, natAbs}
 use lib.ListN.{take}
 use lib.Signed.{ltZ}
-use Rattle.io.specs.Digits.{digits, glyph}
+use Rattle.io.specs.Digits.{glyph}
 use Rattle.exact.specs.Sign.{isNeg}
 use Rattle.answer.specs.Answer as answers
 use Rattle.answer.specs.declared.Answer.{Answer}
 use Rattle.register.specs.Bytes.{ascii}
+use Rattle.text.specs.Numeral.{numeral}
 use Rattle.reading.specs.declared.Reading.{Reading}
 use Rattle.reading.specs.declared.Reading.the-variants as reading
 use Rattle.extremes.specs.Extremes as extremes
@@ -32,16 +33,7 @@ use Rattle.total.specs.declared.Range.the-variants as range
 
 -- ---- numbers
 
--- the fewest digits that hold n, from k on
-unfoldable pub fewest : ℕ → ℕ → ℕ → ℕ
-fewest zero k n = k
-fewest (suc f) k n = cond (ltb n (10 ^ k)) k (fewest f (k + 1) n)
-
--- a number in decimal, with no zero before it
-unfoldable pub numeral : ℕ → List ℕ
-numeral n = digits 10 (fewest 19 1 n) n
-
--- with its sign
+-- a number with its sign
 unfoldable pub signed : ℤ → List (List ℕ)
 signed z = cond (isNeg z) (ascii "-" ∷ numeral (natAbs z) ∷ []) (numeral (natAbs z) ∷ [])
 

@@ -5,15 +5,15 @@
 // Standard input is read in blocks, and standard output written in blocks, so the memory is the same for any input.
 mod show;
 
-ghost use Prim.Native.Nat.{ℕ};
+ghost use Prim.Native.Nat.{ℕ, _≤_};
 ghost use mathlib.Core.Path.{_≡_};
 ghost use mathlib.Core.List.{List};
-ghost use lib.ListN.{length};
-ghost use Rattle.text.specs.Line.{heard, countAfter, Carried, stepped, finished};
+ghost use lib.ListN.{length, take};
+ghost use Rattle.text.specs.Line.{heard, goesOn, countAfter, Carried, Turned, Streamed, stepped, finished};
 ghost use Rattle.text.specs.Output.{waiting, puts};
 ghost use Rattle.record.specs.Record.{wordCount};
 ghost use Rattle.record.specs.Configuration.{configOf};
-ghost use Rattle.replay.specs.Replay.{filled, powerStep, sampleStep, keyStep, byteStep, asPowered, asTold, effect, shownOf, standing, heardBy};
+ghost use Rattle.replay.specs.Replay.{filled, powerStep, sampleStep, keyStep, byteStep, asPowered, asTold, effect, shownOf, standing, heardBy, begun, printedOf};
 use answer::Answer;
 use libc::STDERR_FILENO;
 use libc::STDIN_FILENO;
@@ -214,17 +214,20 @@ fn lines(
     t
 }
 
-// Reads once, and does what came. A read that fails ends the input, and so does a write that fails.
-fn one_turn(
-    block: &mut [u8],
+// What came, the first n bytes of a block. Where nothing came the input has ended, and where a write failed it is read no further.
+fn came(
+    block: &[u8],
+    n: usize,
     line: &mut [u8; KEPT],
     settings: &mut [i32; WORDS],
     buffer: &mut [u8],
     buf: &mut [u8],
     s: State,
-) -> Turn {
-    let got = libc::read(STDIN_FILENO, &mut *block);
-    let n = io::count(got, &*block);
+) -> Turn
+    requires { ⌜ n ≤ length (now block) ⌝ }
+    ensures { λ r. ⌜ Carried heardBy (take n (now (block .entry))) (now (line .entry)) (s .len) (standing s (now (buffer .entry)) (now (buf .entry))) (standing (r .state) (now (buffer .exit)) (now (buf .exit))) (now (line .exit)) (r .state .len) ⌝ }
+    ensures { λ r. ⌜ r .more ≡ goesOn n (r .state .out .ok) ⌝ }
+{
     if n == 0 {
         return Turn {
             state: s,
@@ -244,6 +247,30 @@ fn one_turn(
         state: t,
         more: o.ok,
     }
+}
+
+// Reads once, and does what came. A read that fails gives nothing.
+fn one_turn(
+    block: &mut [u8],
+    line: &mut [u8; KEPT],
+    settings: &mut [i32; WORDS],
+    buffer: &mut [u8],
+    buf: &mut [u8],
+    s: State,
+) -> Turn
+    ensures { λ r. ⌜ Turned heardBy (now (block .exit)) (now (line .entry)) (s .len) (standing s (now (buffer .entry)) (now (buf .entry))) (standing (r .state) (now (buffer .exit)) (now (buf .exit))) (now (line .exit)) (r .state .len) ⌝ }
+{
+    let got = libc::read(STDIN_FILENO, &mut *block);
+    let n = io::count(got, &*block);
+    came(
+        &*block,
+        n,
+        &mut *line,
+        &mut *settings,
+        &mut *buffer,
+        &mut *buf,
+        s,
+    )
 }
 
 // A last line that no LF ends counts, where it has a byte.
@@ -271,7 +298,9 @@ fn run(
     buffer: &mut [u8],
     buf: &mut [u8],
     s: State,
-) -> State {
+) -> State
+    ensures { λ r. ⌜ Streamed heardBy (now (line .entry)) (s .len) (standing s (now (buffer .entry)) (now (buf .entry))) (standing r (now (buffer .exit)) (now (buf .exit))) (now (line .exit)) (r .len) ⌝ }
+{
     let mut t = Turn {
         state: s,
         more: true,
@@ -291,33 +320,43 @@ fn run(
     t.state
 }
 
-// A meter not started: a configuration with nothing in it is refused.
-fn not_started() -> Meter {
+// A meter not started, no byte of a line, and nothing that waits.
+fn begun() -> State
+    ensures { λ r. ⌜ r ≡ begun ⌝ }
+{
     let o = Meter::power_up(config::nothing());
-    o.meter
+    let meter = o.meter;
+    State {
+        meter,
+        len: 0,
+        out: Out { at: 0, ok: true },
+    }
+}
+
+// The whole of standard input, whatever it is: what waits is what is printed of all its lines.
+fn played(block: &mut [u8], buf: &mut [u8]) -> Out
+    ensures { λ r. ⌜ ((stream : List ℕ) × (waiting (r .at) (now (buf .exit)) ≡ printedOf (now (buf .entry)) stream)) ⌝ }
+{
+    let mut line = [0u8; KEPT];
+    let mut settings = [0i32; WORDS];
+    let mut buffer = [238u8; 170];
+    let s = run(
+        &mut *block,
+        &mut line,
+        &mut settings,
+        &mut buffer,
+        &mut *buf,
+        begun(),
+    );
+    let e = end(&line, &mut settings, &mut buffer, &mut *buf, s);
+    e.out
 }
 
 fn main() {
     let mut block = io::large_buffer();
-    let mut line = [0u8; KEPT];
-    let mut settings = [0i32; WORDS];
-    let mut buffer = [238u8; 170];
     let mut buf = io::large_buffer();
-    let begun = State {
-        meter: not_started(),
-        len: 0,
-        out: Out { at: 0, ok: true },
-    };
-    let s = run(
-        &mut block,
-        &mut line,
-        &mut settings,
-        &mut buffer,
-        &mut buf,
-        begun,
-    );
-    let e = end(&line, &mut settings, &mut buffer, &mut buf, s);
-    let out = text::output::flush(&buf, e.out);
+    let o = played(&mut block, &mut buf);
+    let out = text::output::flush(&buf, o);
     if !out.ok {
         io::write_all(STDERR_FILENO, b"a write failed\n");
     }

@@ -5,7 +5,7 @@ ghost use lib.IntN.{natAbs};
 ghost use mathlib.Core.List.{[], _∷_};
 ghost use lib.ListN.{length, take};
 ghost use Rattle.text.specs.Output.{waiting, puts};
-ghost use Rattle.replay.specs.Show.{numeral, signed, named, counted, hexByte, hex, answerPieces, powerLine, readingWord, quotientOf, totalWords, trimmed, bufferWords, extremeWords, measuredWords, setpointWords, onDigit, stateWords, runWords, alarmWords, modeWords, outputWords, receivedWords, meterWords, isNotStarted, eventLine};
+ghost use Rattle.replay.specs.Show.{signed, named, counted, hexByte, hex, answerPieces, powerLine, readingWord, quotientOf, totalWords, trimmed, bufferWords, extremeWords, measuredWords, setpointWords, onDigit, stateWords, runWords, alarmWords, modeWords, outputWords, receivedWords, meterWords, isNotStarted, eventLine};
 use alarm::Alarm;
 use answer::Answer;
 use extremes::Extreme;
@@ -17,6 +17,7 @@ use reading::Reading;
 use receiver::Receiver;
 use text::output::Out;
 use text::output::put;
+use text::output::put_natural;
 use total::Range;
 use total::Total;
 use total::Totalizer;
@@ -30,14 +31,6 @@ fn size_of(z: i64) -> u64
     } else {
         z as u64
     }
-}
-
-fn put_natural(buf: &mut [u8], o: Out, n: u64) -> Out
-    ensures { λ r. ⌜ waiting (r .at) (now (buf .exit)) ≡ puts (waiting (o .at) (now (buf .entry))) (numeral n ∷ []) ⌝ }
-{
-    let mut digits = [0u8; 20];
-    let k = io::decimal(n, &mut digits);
-    put(buf, o, &digits[..k])
 }
 
 fn put_number(buf: &mut [u8], o: Out, z: i64) -> Out

@@ -10,7 +10,7 @@ use lib.ListN.{length, take, drop}
 use lib.Seq.{drop-length, drop-drop, length-take-le}
 use borrow.Author.Tests.{eq-eqb, ne-eqb, leb-true, leb-false}
 use Rattle.exact.proofs.Z.{never}
-use Rattle.text.specs.Line.{keptBytes, Scanned, scan, Heard, bytes, long, heard, kept, before, after, has, Feeds, Cut, cut, lines, unended, allLines, countAfter, Stands, ran, Carried, Turned, Streamed, stepped, finished}
+use Rattle.text.specs.Line.{keptBytes, Scanned, scan, Heard, bytes, long, heard, kept, before, after, has, Feeds, Cut, cut, lines, unended, allLines, goesOn, countAfter, Stands, ran, Carried, Turned, Streamed, stepped, finished}
 use Rattle.text.specs.declared.Step.{Step}
 use Rattle.text.proofs.Laws.{rest}
 use Rattle.text.proofs.Lines.{feeds, empty-kept, cut-ended, cut-open, cut-blocks, cut-behind}
@@ -47,6 +47,14 @@ kept-empty l e = go (leb (length l) keptBytes) e
     go : (t : Bool) → sizeOf (cond t (bytes l) long) ≡ 0 → length l ≡ 0
     go true e = e
     go false e = absurd (omega arith)
+
+-- ---- whether the input goes on
+
+pub ended : (n : ℕ) (ok : Bool) → n ≡ 0 → false ≡ goesOn n ok
+ended n ok e = rw (eq-eqb n 0 e)
+
+pub goes-on : (n : ℕ) (ok : Bool) → (n ≡ 0 → ⊥) → ok ≡ goesOn n ok
+goes-on n ok e = rw (ne-eqb n 0 e)
 
 -- ---- a program's state
 
@@ -163,12 +171,12 @@ module _ {A : Type 0} (event : A → Heard → A) where
       }
 
   -- a read that gave nothing
-  pub none-came : (line : List ℕ) (len : ℕ) (a : A) → Carried event [] line len a a line len
-  none-came line len a = ends refl (begins [] line len a)
+  pub none-came : (block line : List ℕ) (n len : ℕ) (a : A) → n ≡ 0 → Carried event (take n block) line len a a line len
+  none-came block line n len a e = rw e (ends refl (begins [] line len a))
 
   -- reads one after another
   pub no-reads : (line : List ℕ) (len : ℕ) (a : A) → Streamed event line len a a line len
-  no-reads line len a = record { stream = []; carries = none-came line len a }
+  no-reads line len a = record { stream = []; carries = none-came [] line 0 len a refl }
 
   pub reads-on : {block line line' line'' : List ℕ} {len len' len'' : ℕ} {a b c : A}
       → Streamed event line len a b line' len'

@@ -2,7 +2,7 @@
 use Prim.Native.Nat.{ℕ, _+_, _≤_, _<_}
 use mathlib.Core.Path.{_≡_}
 use mathlib.Core.List.{List, [], _∷_, _++_}
-use mathlib.Core.Bool.{Bool, true, false, cond}
+use mathlib.Core.Bool.{Bool, true, false, cond, not, _&&_}
 use lib.ListN.{length, take, drop, set}
 use lib.Dec.{leb, ltb, eqb}
 use Rattle.text.specs.declared.Step.{Step}
@@ -100,6 +100,10 @@ unended (b ∷ s) = (b ∷ s) ∷ []
 -- every line of a whole stream
 unfoldable pub allLines : List ℕ → List (List ℕ)
 allLines stream = lines [] stream .done ++ unended (lines [] stream .since)
+
+-- the input goes on where some of it came, and every write took all its bytes
+abbrev pub goesOn : ℕ → Bool → Bool
+goesOn came ok = not (eqb came 0) && ok
 
 -- the count of the line that is read on after a step
 unfoldable pub countAfter : Step → ℕ

@@ -8,14 +8,14 @@ use lib.ListN.{length}
 use Rattle.text.specs.Line.{Used}
 use Rattle.text.proofs.Laws.{ahead}
 use Rattle.text.proofs.Streams.{Reaches, begins, turns, ends}
-use Rattle.bench.specs.Bench.{stand, heardBy}
+use Rattle.bench.specs.Bench.{standing, heardBy}
 use Rattle.bench.proofs.lines.Statement.{statement}
 use Rattle.bench.proofs.lines.Tie as tie
 
 abbrev Inv-loop : tie.InvT-loop
 Inv-loop block line₀ reply₀ buf₀ t₀ at₀ line reply buf t at =
     (at ≤ length block) × (length reply ≡ length reply₀) × (length buf ≡ length buf₀)
-    × Reaches heardBy block line₀ (t₀ .len) (stand (t₀ .meter) reply₀) (stand (t .meter) reply) line (t .len) at
+    × Reaches heardBy block line₀ (t₀ .len) (standing t₀ reply₀ buf₀) (standing t reply buf) line (t .len) at
 
 abbrev μ-loop : tie.MeasureT-loop
 μ-loop block line₀ reply₀ buf₀ t₀ at₀ line reply buf t at = length block - at

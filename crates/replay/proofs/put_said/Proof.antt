@@ -2,7 +2,7 @@
 use mathlib.Core.Path.{sym, ap}
 use Rattle.replay.specs.declared.Said.{Said}
 use Rattle.replay.specs.Replay.{shownOf}
-use Rattle.replay.proofs.Pieces.{one, alike}
+use Rattle.text.proofs.Pieces.{one, alike}
 use borrow.Author.Needs.{needs}
 use Rattle.replay.proofs.put_said.Statement.{statement}
 use Rattle.replay.proofs.put_said.Tie as tie

@@ -1,8 +1,8 @@
 -- `replay::show::put_answer` meets its contract: the pieces are put one after another. Assumes nothing.
 use mathlib.Core.List.{[], _∷_}
 use Rattle.answer.specs.Answer.{number, value}
-use Rattle.replay.specs.Show.{numeral}
-use Rattle.replay.proofs.Pieces.{one, next}
+use Rattle.text.specs.Numeral.{numeral}
+use Rattle.text.proofs.Pieces.{one, next}
 use borrow.Author.Needs.{needs}
 use Rattle.replay.proofs.show.put_answer.Statement.{statement}
 use Rattle.replay.proofs.show.put_answer.Tie as tie

@@ -4,7 +4,7 @@ use mathlib.Core.List.{[], _∷_}
 use Rattle.text.proofs.Laws.{part}
 use Rattle.register.specs.Bytes.{ascii}
 use Rattle.replay.specs.Show.{hex, trimmed, bufferWords}
-use Rattle.replay.proofs.Pieces.{one, next, alike}
+use Rattle.text.proofs.Pieces.{one, next, alike}
 use borrow.Author.Needs.{needs}
 use Rattle.replay.proofs.show.put_buffer.Statement.{statement}
 use Rattle.replay.proofs.show.put_buffer.Tie as tie

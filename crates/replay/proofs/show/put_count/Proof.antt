@@ -1,7 +1,8 @@
 -- `replay::show::put_count` meets its contract: the pieces are put one after another. Assumes nothing.
 use mathlib.Core.List.{[], _∷_}
-use Rattle.replay.specs.Show.{numeral, counted}
-use Rattle.replay.proofs.Pieces.{one, next}
+use Rattle.text.specs.Numeral.{numeral}
+use Rattle.replay.specs.Show.{counted}
+use Rattle.text.proofs.Pieces.{one, next}
 use borrow.Author.Needs.{needs}
 use Rattle.replay.proofs.show.put_count.Statement.{statement}
 use Rattle.replay.proofs.show.put_count.Tie as tie

@@ -3,7 +3,8 @@ use mathlib.Core.Path.{sym, _∙_}
 use mathlib.Core.List.{[], _∷_, _++_}
 use Rattle.register.specs.Bytes.{ascii}
 use Rattle.replay.specs.Show.{answerPieces, answerHead, bufferWords, meterWords}
-use Rattle.replay.proofs.Pieces.{one, next, alike, event-off, event-on}
+use Rattle.text.proofs.Pieces.{one, next, alike}
+use Rattle.replay.proofs.Pieces.{event-off, event-on}
 use borrow.Author.Needs.{needs}
 use Rattle.replay.proofs.show.put_event.Statement.{statement}
 use Rattle.replay.proofs.show.put_event.Tie as tie

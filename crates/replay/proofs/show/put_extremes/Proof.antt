@@ -4,7 +4,7 @@ use mathlib.Core.List.{_++_}
 use Rattle.extremes.specs.Extremes.{shown}
 use Rattle.register.specs.Bytes.{ascii}
 use Rattle.replay.specs.Show.{counted, readingWord, extremeWords}
-use Rattle.replay.proofs.Pieces.{next, alike}
+use Rattle.text.proofs.Pieces.{next, alike}
 use borrow.Author.Needs.{needs}
 use Rattle.replay.proofs.show.put_extremes.Statement.{statement}
 use Rattle.replay.proofs.show.put_extremes.Tie as tie

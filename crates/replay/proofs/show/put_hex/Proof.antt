@@ -7,7 +7,8 @@ use Prim.Native.Nat.{_≤_, _-_}
 use lib.ListN.{length, drop}
 use Rattle.text.specs.Output.{waiting, puts}
 use Rattle.replay.specs.Show.{hexByte}
-use Rattle.replay.proofs.Pieces.{one, alike, hex-none, hex-some, hex-turn, hex-out}
+use Rattle.text.proofs.Pieces.{one, alike}
+use Rattle.replay.proofs.Pieces.{hex-none, hex-some, hex-turn, hex-out}
 use Rattle.replay.proofs.show.put_hex.Statement.{statement}
 use Rattle.replay.proofs.show.put_hex.Tie as tie
 

@@ -3,7 +3,8 @@ use mathlib.Core.Path.{ap, ap₂, _∙_}
 use mathlib.Core.List.{[], _∷_}
 use Prim.Native.Nat.{ℕ, _/_, _%_}
 use Rattle.text.specs.Output.{waiting, putIn}
-use Rattle.replay.proofs.Pieces.{one, hex-digit}
+use Rattle.text.proofs.Pieces.{one}
+use Rattle.replay.proofs.Pieces.{hex-digit}
 use borrow.Author.Needs.{needs}
 use Rattle.replay.proofs.show.put_hex_byte.Statement.{statement}
 use Rattle.replay.proofs.show.put_hex_byte.Tie as tie

@@ -2,7 +2,7 @@
 use mathlib.Core.List.{_++_}
 use Rattle.register.specs.Bytes.{ascii}
 use Rattle.replay.specs.Show.{readingWord, totalWords, extremeWords, measuredWords}
-use Rattle.replay.proofs.Pieces.{next}
+use Rattle.text.proofs.Pieces.{next}
 use borrow.Author.Needs.{needs}
 use Rattle.replay.proofs.show.put_measured.Statement.{statement}
 use Rattle.replay.proofs.show.put_measured.Tie as tie

@@ -1,7 +1,7 @@
 -- `replay::show::put_mode` meets its contract: the arm says which mode it is. Assumes nothing.
 use mathlib.Core.Path.{sym, ap}
 use Rattle.replay.specs.Show.{modeWords}
-use Rattle.replay.proofs.Pieces.{one, alike}
+use Rattle.text.proofs.Pieces.{one, alike}
 use borrow.Author.Needs.{needs}
 use Rattle.replay.proofs.show.put_mode.Statement.{statement}
 use Rattle.replay.proofs.show.put_mode.Tie as tie

@@ -3,7 +3,7 @@ use mathlib.Core.Path.{ap}
 use mathlib.Core.List.{[], _∷_}
 use mir.Facts.{toZ-ofZ}
 use Rattle.replay.specs.Show.{signed, named}
-use Rattle.replay.proofs.Pieces.{one, next, alike}
+use Rattle.text.proofs.Pieces.{one, next, alike}
 use borrow.Author.Needs.{needs}
 use Rattle.replay.proofs.show.put_named.Statement.{statement}
 use Rattle.replay.proofs.show.put_named.Tie as tie

@@ -5,8 +5,9 @@ use lib.IntN.{natAbs}
 use mir.Facts.{toZ-ofZ}
 use Rattle.exact.proofs.Z.{neg-is}
 use Rattle.register.specs.Bytes.{ascii}
-use Rattle.replay.specs.Show.{numeral}
-use Rattle.replay.proofs.Pieces.{one, next, alike, signed-neg, signed-pos}
+use Rattle.text.specs.Numeral.{numeral}
+use Rattle.text.proofs.Pieces.{one, next, alike}
+use Rattle.replay.proofs.Pieces.{signed-neg, signed-pos}
 use borrow.Author.Needs.{needs}
 use Rattle.replay.proofs.show.put_number.Statement.{statement}
 use Rattle.replay.proofs.show.put_number.Tie as tie

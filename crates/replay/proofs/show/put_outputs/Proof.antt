@@ -3,7 +3,7 @@ use mathlib.Core.Path.{ap}
 use Rattle.exact.proofs.Z.{back32}
 use Rattle.register.specs.Bytes.{ascii}
 use Rattle.replay.specs.Show.{named, modeWords, outputWords}
-use Rattle.replay.proofs.Pieces.{next, alike}
+use Rattle.text.proofs.Pieces.{next, alike}
 use borrow.Author.Needs.{needs}
 use Rattle.replay.proofs.show.put_outputs.Statement.{statement}
 use Rattle.replay.proofs.show.put_outputs.Tie as tie

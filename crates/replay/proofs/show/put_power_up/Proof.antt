@@ -2,7 +2,7 @@
 use mathlib.Core.List.{[], _∷_}
 use Rattle.register.specs.Bytes.{ascii}
 use Rattle.replay.specs.Show.{answerPieces}
-use Rattle.replay.proofs.Pieces.{one, next}
+use Rattle.text.proofs.Pieces.{one, next}
 use borrow.Author.Needs.{needs}
 use Rattle.replay.proofs.show.put_power_up.Statement.{statement}
 use Rattle.replay.proofs.show.put_power_up.Tie as tie

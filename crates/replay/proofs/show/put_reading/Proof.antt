@@ -2,7 +2,7 @@
 use mathlib.Core.Path.{sym, ap, _∙_}
 use Rattle.exact.proofs.Z.{back32}
 use Rattle.replay.specs.Show.{named, readingWord}
-use Rattle.replay.proofs.Pieces.{alike}
+use Rattle.text.proofs.Pieces.{alike}
 use borrow.Author.Needs.{needs}
 use Rattle.replay.proofs.show.put_reading.Statement.{statement}
 use Rattle.replay.proofs.show.put_reading.Tie as tie

@@ -7,7 +7,8 @@ use Rattle.receiver.specs.Receiver.{limit}
 use Rattle.register.specs.Bytes.{ascii}
 use Rattle.text.proofs.Laws.{part}
 use Rattle.replay.specs.Show.{hex}
-use Rattle.replay.proofs.Pieces.{one, next, alike, received-long, received-held}
+use Rattle.text.proofs.Pieces.{one, next, alike}
+use Rattle.replay.proofs.Pieces.{received-long, received-held}
 use borrow.Author.Needs.{needs}
 use Rattle.replay.proofs.show.put_received.Statement.{statement}
 use Rattle.replay.proofs.show.put_received.Tie as tie

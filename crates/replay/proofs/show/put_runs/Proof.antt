@@ -3,7 +3,7 @@ use mathlib.Core.List.{_++_}
 use Rattle.register.specs.Bytes.{ascii}
 use Rattle.alarms.specs.Alarms.{alarmAt}
 use Rattle.replay.specs.Show.{counted, runWords}
-use Rattle.replay.proofs.Pieces.{next}
+use Rattle.text.proofs.Pieces.{next}
 use borrow.Author.Needs.{needs}
 use Rattle.replay.proofs.show.put_runs.Statement.{statement}
 use Rattle.replay.proofs.show.put_runs.Tie as tie

@@ -5,7 +5,7 @@ use Rattle.exact.proofs.Z.{back32}
 use Rattle.register.specs.Bytes.{ascii}
 use Rattle.alarms.specs.Alarms.{alarmAt}
 use Rattle.replay.specs.Show.{named, setpointWords}
-use Rattle.replay.proofs.Pieces.{next, alike}
+use Rattle.text.proofs.Pieces.{next, alike}
 use borrow.Author.Needs.{needs}
 use Rattle.replay.proofs.show.put_setpoints.Statement.{statement}
 use Rattle.replay.proofs.show.put_setpoints.Tie as tie

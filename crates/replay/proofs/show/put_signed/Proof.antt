@@ -2,7 +2,7 @@
 use mathlib.Core.Path.{ap}
 use Rattle.exact.proofs.Z.{widens, widened}
 use Rattle.replay.specs.Show.{named}
-use Rattle.replay.proofs.Pieces.{alike}
+use Rattle.text.proofs.Pieces.{alike}
 use borrow.Author.Needs.{needs}
 use Rattle.replay.proofs.show.put_signed.Statement.{statement}
 use Rattle.replay.proofs.show.put_signed.Tie as tie

@@ -1,7 +1,7 @@
 -- `replay::show::put_state` meets its contract: the pieces are put one after another. Assumes nothing.
 use mathlib.Core.List.{_++_}
 use Rattle.replay.specs.Show.{measuredWords, alarmWords, outputWords, receivedWords, meterWords}
-use Rattle.replay.proofs.Pieces.{next}
+use Rattle.text.proofs.Pieces.{next}
 use borrow.Author.Needs.{needs}
 use Rattle.replay.proofs.show.put_state.Statement.{statement}
 use Rattle.replay.proofs.show.put_state.Tie as tie

@@ -3,7 +3,7 @@ use mathlib.Core.List.{[], _∷_}
 use Rattle.register.specs.Bytes.{ascii}
 use Rattle.alarms.specs.Alarms.{alarmAt}
 use Rattle.replay.specs.Show.{onDigit, stateWords}
-use Rattle.replay.proofs.Pieces.{one, next}
+use Rattle.text.proofs.Pieces.{one, next}
 use borrow.Author.Needs.{needs}
 use Rattle.replay.proofs.show.put_states.Statement.{statement}
 use Rattle.replay.proofs.show.put_states.Tie as tie

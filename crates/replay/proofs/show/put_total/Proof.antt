@@ -4,7 +4,7 @@ use Rattle.exact.proofs.Z.{back64}
 use Rattle.register.specs.Bytes.{ascii}
 use Rattle.total.specs.declared.Range.{Range}
 use Rattle.replay.specs.Show.{named, quotientOf, rangeWord, totalWords}
-use Rattle.replay.proofs.Pieces.{one, next, alike}
+use Rattle.text.proofs.Pieces.{one, next, alike}
 use borrow.Author.Needs.{needs}
 use Rattle.replay.proofs.show.put_total.Statement.{statement}
 use Rattle.replay.proofs.show.put_total.Tie as tie

@@ -1,6 +1,6 @@
 -- `replay::show::put_two` meets its contract: the pieces are put one after another. Assumes nothing.
 use mathlib.Core.List.{[], _∷_}
-use Rattle.replay.proofs.Pieces.{one, next}
+use Rattle.text.proofs.Pieces.{one, next}
 use borrow.Author.Needs.{needs}
 use Rattle.replay.proofs.show.put_two.Statement.{statement}
 use Rattle.replay.proofs.show.put_two.Tie as tie
