@@ -4,3 +4,4 @@ pub mod Number
 pub mod Length
 pub mod Back
 pub mod Shape
+pub mod Cases

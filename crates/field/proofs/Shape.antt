@@ -1,21 +1,20 @@
--- Every number that can be shown has a well-shaped text, and the fields of the table are what it says. Assumes nothing.
+-- Every number that can be shown has a well-shaped text. Assumes nothing.
 use Prim.Native.Nat.{ℕ, zero, suc, _/_, _%_, _^_, _<_}
 use native.Mathlib.Omega.{arith}
-use mathlib.Core.Path.{_≡_, refl, sym, ap, _∙_}
-use mathlib.Core.Bool.{Bool, true, false, cond, _&&_}
+use mathlib.Core.Path.{_≡_, refl}
+use mathlib.Core.Bool.{Bool, true, false, cond}
 use mathlib.Core.List.{List, [], _∷_, _++_}
 use mathlib.Core.Logic.{_⊎_, inl, inr}
 use borrow.Author.Tests.{ltb-true, ltb-false}
 use lib.Dec.{ltb}
 use lib.IntN.{ℤ, pos, negsuc, natAbs}
-use lib.ListN.{length}
 use Rattle.exact.proofs.Z.{both, never}
 use Rattle.reading.specs.declared.Reading.the-variants.{Number}
 use Rattle.register.specs.Bytes.{within}
 use Rattle.register.proofs.Ranges.{in-range}
-use Rattle.field.specs.Field.{digit, digits, decimal, whole, fraction, sign, number, text, field, Showable}
+use Rattle.field.specs.Field.{digit, digits, decimal, whole, fraction, sign, number, text, Showable}
 use Rattle.field.specs.Back.{isDigit, onward}
-use Rattle.field.specs.Shape.{allDigits, noZeroFirst, pointed, WellShaped, cases, CasesHold}
+use Rattle.field.specs.Shape.{allDigits, noZeroFirst, pointed, WellShaped}
 use Rattle.field.proofs.Digits.{digits-length, tens-below}
 use Rattle.field.proofs.Number.{whole-below}
 use Rattle.field.proofs.Back.{is-digit, number-onward}
@@ -83,9 +82,3 @@ well-shaped places z s =
       each-place = digits-length places r;
       behind = digits-all places r;
     }
-
--- ---- the fields of the table
-
-pub cases-hold : CasesHold
-unfolding digits decimal fraction sign number text field cases
-cases-hold = refl

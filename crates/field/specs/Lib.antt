@@ -1,3 +1,4 @@
 pub mod Field
 pub mod Back
 pub mod Shape
+pub mod Cases
