@@ -7,6 +7,7 @@ use Prim.Native.Nat.{ℕ, suc, _*_}
 use lib.IntN.{ℤ, pos, _+ℤ_, _-ℤ_}
 use lib.ListN.{set}
 use Rattle.exact.specs.Sign.{minus}
+use Rattle.total.specs.declared.Totalizer.{Totalizer}
 use Rattle.alarm.specs.declared.Settings.{Settings}
 use Rattle.config.specs.Bench.{benchMeter}
 use Rattle.config.specs.Config.{judged}
@@ -50,15 +51,17 @@ input k z = scale (λ s. record { step = s .step; count = s .count; inputs = set
 abbrev display : ℕ → ℤ → Change
 display k z = scale (λ s. record { step = s .step; count = s .count; inputs = s .inputs; displays = set (s .displays) k z })
 
-abbrev totalizer : (lowCut factor base : ℤ) → Change
-totalizer l f b =
-    working
-    (λ w. record {
-      totalizer = record { batch = false; «low_cut» = l; factor = f; «time_base» = b };
-      capture = w .capture;
-      alarms = w .alarms;
-      analog = w .analog;
-    })
+abbrev totalizer : (Totalizer → Totalizer) → Change
+totalizer f = working (λ w. record { totalizer = f (w .totalizer); capture = w .capture; alarms = w .alarms; analog = w .analog })
+
+abbrev factor : ℤ → Change
+factor z = totalizer (λ t. record { batch = t .batch; «low_cut» = t .«low_cut»; factor = z; «time_base» = t .«time_base» })
+
+abbrev timeBase : ℤ → Change
+timeBase z = totalizer (λ t. record { batch = t .batch; «low_cut» = t .«low_cut»; factor = t .factor; «time_base» = z })
+
+abbrev lowCut : ℤ → Change
+lowCut z = totalizer (λ t. record { batch = t .batch; «low_cut» = z; factor = t .factor; «time_base» = t .«time_base» })
 
 abbrev capture : ℤ → Change
 capture z = working (λ w. record { totalizer = w .totalizer; capture = z; alarms = w .alarms; analog = w .analog })
@@ -95,7 +98,7 @@ between rule c lo hi = accepts (c lo) ∷ accepts (c hi) ∷ refuses rule (c (lo
 abbrev oneOf : ℕ → (ℤ → Change) → List ℕ → List ℕ → List Row
 oneOf rule c these others = map (λ n. accepts (c (pos n))) these ++ map (λ n. refuses rule (c (pos n))) others
 
--- every two of some changes that break the rules from n on: the first is reported
+-- every two of some changes, each of which breaks one of the rules from n on: the first is reported
 unfoldable pub pairs : ℕ → List Change → List Row
 pairs n [] = []
 pairs n (first ∷ rest) = map (λ (second : Change). refuses n (λ c. first (second c))) rest ++ pairs (suc n) rest
@@ -122,7 +125,7 @@ alarmRows k =
     ++ between 8 (λ on. alarm k (pos 1) on (pos 0)) (pos 0) (pos 32750)
     ++ between 8 (λ off. alarm k (pos 1) (pos 0) off) (pos 0) (pos 32750)
 
--- for each rule a change that breaks it
+-- for each rule a change that breaks it, and that leaves what the others change
 abbrev breaks : List Change
 breaks =
     node (pos 100)
@@ -130,11 +133,11 @@ breaks =
     ∷ step (pos 3)
     ∷ count (pos 17)
     ∷ input 1 (pos 0)
-    ∷ totalizer (minus 19999) (pos 1000) (pos 2)
-    ∷ totalizer (pos 100000) (pos 1000) (pos 60)
+    ∷ timeBase (pos 2)
+    ∷ lowCut (pos 100000)
     ∷ setpoint 3 (pos 100000)
     ∷ capture (pos 32751)
-    ∷ analog (pos 0) (pos 0)
+    ∷ analog (pos 100) (pos 100)
     ∷ []
 
 unfoldable pub rows : List Row
@@ -159,9 +162,9 @@ rows =
     ∷ refuses 5 (λ c. count (pos 16) (input 15 (pos 100000) c))
     ∷ refuses 5 (λ c. count (pos 16) (input 15 (pos 14000) c))
     ∷ refuses 5 (λ c. count (pos 16) (display 15 (pos 100000) c))
-    ∷ between 6 (λ z. totalizer (minus 19999) z (pos 60)) (pos 1) (pos 65000)
-    ++ oneOf 6 (λ z. totalizer (minus 19999) (pos 1000) z) (1 ∷ 60 ∷ 3600 ∷ 86400 ∷ []) (0 ∷ 2 ∷ 86401 ∷ [])
-    ++ between 7 (λ z. totalizer z (pos 1000) (pos 60)) (minus 19999) (pos 99999)
+    ∷ between 6 factor (pos 1) (pos 65000)
+    ++ oneOf 6 timeBase (1 ∷ 60 ∷ 3600 ∷ 86400 ∷ []) (0 ∷ 2 ∷ 86401 ∷ [])
+    ++ between 7 lowCut (minus 19999) (pos 99999)
     ++ alarmRows 0
     ++ alarmRows 1
     ++ alarmRows 2
