@@ -252,13 +252,7 @@ fn end(line: &[u8; KEPT], reply: &mut [u8], buf: &mut [u8], s: State) -> State
 
 // A proved loop has to end, and nothing says that the input does. So the loop counts its turns down from 2^64 - 1, a number that no
 // run uses up: at a turn each nanosecond it would take more than five hundred years.
-fn run(
-    block: &mut [u8],
-    line: &mut [u8; KEPT],
-    reply: &mut [u8],
-    buf: &mut [u8],
-    s: State,
-) -> State
+fn run(block: &mut [u8], line: &mut [u8; KEPT], reply: &mut [u8], buf: &mut [u8], s: State) -> State
     ensures { λ r. ⌜ Streamed heardBy (now (line .entry)) (s .len) (standing s (now (reply .entry)) (now (buf .entry))) (standing r (now (reply .exit)) (now (buf .exit))) (now (line .exit)) (r .len) ⌝ }
 {
     let mut t = Turn {

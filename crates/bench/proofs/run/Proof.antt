@@ -31,8 +31,7 @@ loop-less c = omega arith
 
 loop-again : tie.Need-loop-again Inv-loop μ-loop
 loop-again c =
-    let l = c .before .before .before .before .before .before .before .before .before .before .before .before .before .loop in
-    (
+    let l = c .before .before .before .before .before .before .before .before .before .before .before .before .before .loop in (
       c .before .before .before .before .before .block .given ∙ l .inv .0,
       c .before .before .before .reply .given ∙ l .inv .1,
       c .before .buf .given ∙ l .inv .2,
