@@ -8,7 +8,7 @@ use native.Mathlib.Omega.{arith}
 use lib.Dec.{leb, eqb}
 use lib.ListN.{length, take, drop}
 use lib.Seq.{drop-length, drop-drop, length-take-le}
-use borrow.Author.Tests.{eq-eqb, ne-eqb, leb-true, leb-false}
+use borrow.Author.Tests.{eq-eqb, ne-eqb, leb-true}
 use Rattle.exact.proofs.Z.{never}
 use Rattle.text.specs.Line.{keptBytes, Scanned, scan, Heard, bytes, long, heard, kept, before, after, has, Feeds, Cut, cut, lines, unended, allLines, goesOn, countAfter, Stands, ran, Carried, Turned, Streamed, stepped, finished}
 use Rattle.text.specs.declared.Step.{Step}
