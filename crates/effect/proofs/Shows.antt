@@ -25,29 +25,18 @@ use Rattle.effect.specs.Able.{Able}
 -- ---- the values of a block are what the registers show
 
 module _ (p : Places) (w : Working) (i : Instrument) where
-  shown-value : (r : ℕ) → r ≤ at "H" → valueAt (values p w i) r ≡ shownAt w i r
-  unfolding valueAt shownAt
-  shown-value zero h = refl
-  shown-value (suc zero) h = refl
-  shown-value (suc (suc zero)) h = refl
-  shown-value (suc (suc (suc zero))) h = refl
-  shown-value (suc (suc (suc (suc zero)))) h = refl
-  shown-value (suc (suc (suc (suc (suc zero))))) h = refl
-  shown-value (suc (suc (suc (suc (suc (suc zero)))))) h = refl
-  shown-value (suc (suc (suc (suc (suc (suc (suc zero))))))) h = refl
-  shown-value (suc (suc (suc (suc (suc (suc (suc (suc r)))))))) h = absurd (omega arith)
-
-  shown-places : (r : ℕ) → r ≤ at "H" → placesOf (values p w i) r ≡ placesAt p r
-  unfolding placesOf placesAt
-  shown-places zero h = refl
-  shown-places (suc zero) h = refl
-  shown-places (suc (suc zero)) h = refl
-  shown-places (suc (suc (suc zero))) h = refl
-  shown-places (suc (suc (suc (suc zero)))) h = refl
-  shown-places (suc (suc (suc (suc (suc zero))))) h = refl
-  shown-places (suc (suc (suc (suc (suc (suc zero)))))) h = refl
-  shown-places (suc (suc (suc (suc (suc (suc (suc zero))))))) h = refl
-  shown-places (suc (suc (suc (suc (suc (suc (suc (suc r)))))))) h = absurd (omega arith)
+  -- each with its value and its places
+  shown-there : (r : ℕ) → r ≤ at "H" → (valueAt (values p w i) r ≡ shownAt w i r) × (placesOf (values p w i) r ≡ placesAt p r)
+  unfolding valueAt shownAt placesOf placesAt
+  shown-there zero h = (refl, refl)
+  shown-there (suc zero) h = (refl, refl)
+  shown-there (suc (suc zero)) h = (refl, refl)
+  shown-there (suc (suc (suc zero))) h = (refl, refl)
+  shown-there (suc (suc (suc (suc zero)))) h = (refl, refl)
+  shown-there (suc (suc (suc (suc (suc zero))))) h = (refl, refl)
+  shown-there (suc (suc (suc (suc (suc (suc zero)))))) h = (refl, refl)
+  shown-there (suc (suc (suc (suc (suc (suc (suc zero))))))) h = (refl, refl)
+  shown-there (suc (suc (suc (suc (suc (suc (suc (suc r)))))))) h = absurd (omega arith)
 
 -- so a block of them is the block of T's lines
 pub block-is : (t : Talking) (w : Working) (i : Instrument) → block (t .print) (valueLine (style t) (values (t .places) w i)) ≡ printReply t w i
@@ -55,7 +44,7 @@ unfolding printReply valueLine readReply
 block-is t w i = block-same (t .print) (valueLine (style t) (values (t .places) w i)) (readReply t w i) same
   where
     same : (r : ℕ) → r ≤ at "H" → valueLine (style t) (values (t .places) w i) r ≡ readReply t w i r
-    same r h = rw (shown-value (t .places) w i r h, shown-places (t .places) w i r h)
+    same r h = let e = shown-there (t .places) w i r h in rw (e .0, e .1)
 
 -- ---- and they fit
 
@@ -73,5 +62,5 @@ module _ (t : Talking) (w : Working) (i : Instrument) (a : Able t w i) where
   printable =
       record {
         named = named;
-        fits = λ r h. rw (shown-value (t .places) w i r h, shown-places (t .places) w i r h) (showable r (omega arith));
+        fits = λ r h. let e = shown-there (t .places) w i r h in rw (e .0, e .1) (showable r (omega arith));
       }
