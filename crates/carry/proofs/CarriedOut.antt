@@ -3,19 +3,16 @@ use mathlib.Core.Path.{_≡_, refl, ap, _∙_}
 use mathlib.Core.Bool.{Bool, true, false, cond, _&&_}
 use mathlib.Core.List.{List, [], _∷_}
 use mathlib.Core.Option.{none, some}
-use mathlib.Core.Logic.{_⊎_, inl, inr}
-use Prim.Native.Nat.{ℕ, _+_, _≤_, _<_}
-use native.Mathlib.Numerals.{add-one}
+use Prim.Native.Nat.{ℕ}
 use lib.Dec.{eqb}
-use lib.IntN.{ℤ, pos, natAbs}
-use lib.ListN.{length, drop, getD, drop-of-length-le}
-use lib.Seq.{drop-cons}
+use lib.IntN.{ℤ, natAbs}
 use Rattle.config.specs.declared.Config.{Config}
 use Rattle.meter.specs.Meter.{Step, sampled, keyed, received}
 use Rattle.meter.specs.declared.Outcome.{Outcome}
 use Rattle.looking.specs.History.{sample, key, byte, History, outcomeOf, lastOutcome}
 use Rattle.looking.proofs.Demand.{demand-3}
-use Rattle.carry.specs.CarriedOut.{isByte, carriedOne, carriedOut, encoded, behind, historyOf, CarriesOut}
+use Rattle.meter.specs.Slices.{isByte, carriedOne, carriedOut}
+use Rattle.carry.specs.CarriedOut.{encoded, behind, historyOf, CarriesOut}
 
 module _ (c : Config) where
   one-by : (h : History) (o : Step) (value : ℤ) (place : ℕ) (t u v : Bool) → o .outcome ≡ lastOutcome c h
@@ -53,31 +50,3 @@ module _ (c : Config) where
             λ a h o kinds values places e.
             ap (λ (p : Outcome). p .meter .instrument) (as-history h o kinds values places e) ∙ demand-3 .looking c a .holds (historyOf h o kinds values places);
       }
-
--- ── what a loop over the slices leans on ──
-
--- one entry more has been carried out
-pub carried-next : (o : Step) (kinds : List ℕ) (values : List ℤ) (places : List ℕ) (i : ℕ) → i < length kinds → i < length values → i < length places
-    → carriedOut o (drop i kinds) (drop i values) (drop i places)
-    ≡ carriedOut (carriedOne o (getD kinds i 0) (getD values i (pos 0)) (getD places i 0)) (drop (i + 1) kinds) (drop (i + 1) values) (drop (i + 1) places)
-unfolding carriedOut
-carried-next o kinds values places i h k l = rw (drop-cons kinds i 0, drop-cons values i (pos 0), drop-cons places i 0, add-one)
-
--- the shortest slice is at its end
-no-values : (o : Step) (kinds places : List ℕ) → carriedOut o kinds [] places ≡ o
-unfolding carriedOut
-no-values o [] places = refl
-no-values o (kind ∷ kinds) places = refl
-
-no-places : (o : Step) (kinds : List ℕ) (values : List ℤ) → carriedOut o kinds values [] ≡ o
-unfolding carriedOut
-no-places o [] values = refl
-no-places o (kind ∷ kinds) [] = refl
-no-places o (kind ∷ kinds) (value ∷ values) = refl
-
-pub carried-end : (o : Step) (kinds : List ℕ) (values : List ℤ) (places : List ℕ) (i : ℕ) → (length kinds ≤ i) ⊎ ((length values ≤ i) ⊎ (length places ≤ i))
-    → carriedOut o (drop i kinds) (drop i values) (drop i places) ≡ o
-unfolding carriedOut
-carried-end o kinds values places i (inl h) = rw (drop-of-length-le kinds h)
-carried-end o kinds values places i (inr (inl h)) = rw (drop-of-length-le values h) (no-values o (drop i kinds) (drop i places))
-carried-end o kinds values places i (inr (inr h)) = rw (drop-of-length-le places h) (no-places o (drop i kinds) (drop i values))

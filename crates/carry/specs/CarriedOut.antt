@@ -1,41 +1,19 @@
--- Events as a caller gives them in three slices, oldest first, carried out one after another over one lent buffer.
+-- The history that entries make, as `carry_out` of the meter is given them, and what is claimed of it.
 use mathlib.Core.Path.{_≡_}
-use mathlib.Core.Bool.{Bool, cond, _&&_}
+use mathlib.Core.Bool.{cond, _&&_}
 use mathlib.Core.List.{List, [], _∷_}
 use mathlib.Core.Option.{Option, none, some}
 use Prim.Native.Nat.{ℕ}
 use lib.Dec.{eqb}
-use lib.IntN.{ℤ, pos, natAbs}
-use Rattle.exact.specs.Sign.{within}
+use lib.IntN.{ℤ, natAbs}
 use Rattle.config.specs.Config.{judged}
 use Rattle.config.specs.declared.Config.{Config}
 use Rattle.config.specs.declared.Verdict.the-variants.{Accepted}
-use Rattle.meter.specs.Meter.{Step, sampled, keyed, received}
+use Rattle.meter.specs.Meter.{Step}
+use Rattle.meter.specs.Slices.{isByte, carriedOne, carriedOut}
 use Rattle.looking.specs.History.{Event, sample, key, byte, History, lastOutcome}
 use Rattle.looking.specs.Kept.{kept}
 use Rattle.looking.specs.Given.{given}
-
--- a value that is a byte
-abbrev pub isByte : ℤ → Bool
-isByte z = within (pos 0) (pos 255) z
-
--- an entry of kind 0 is a sample, of kind 1 a key, of kind 2 a byte where its value is one. Any other encodes no event: the outcome
--- before it stands, and the buffer is as it was
-abbrev pub carriedOne : Step → ℕ → ℤ → ℕ → Step
-carriedOne o kind value place =
-    cond (eqb kind 0) (record { outcome = sampled (o .outcome .meter) value; buffer = o .buffer })
-    (cond (eqb kind 1) (keyed (o .outcome .meter) value (o .buffer) place)
-    (cond (eqb kind 2 && isByte value) (received (o .outcome .meter) (natAbs value) (o .buffer) place)
-    o))
-
--- there are as many entries as the shortest slice has
-unfoldable pub carriedOut : Step → List ℕ → List ℤ → List ℕ → Step
-carriedOut o [] values places = o
-carriedOut o (kind ∷ kinds) [] places = o
-carriedOut o (kind ∷ kinds) (value ∷ values) [] = o
-carriedOut o (kind ∷ kinds) (value ∷ values) (place ∷ places) = carriedOut (carriedOne o kind value place) kinds values places
-
--- ── the history that entries make ──
 
 -- the event of an entry, with the buffer as it stands when the entry's turn has come
 abbrev pub encoded : List ℕ → ℕ → ℤ → ℕ → Option Event

@@ -5,9 +5,11 @@ use lib.IntN.{pos, natAbs}
 use lib.Signed.{ltZ}
 use Rattle.exact.specs.Sign.{isNeg}
 use Rattle.reading.specs.Reading.{Scalable}
+use Rattle.config.specs.declared.Config.{Config}
 use Rattle.receiver.specs.declared.Kind.{Kind}
 use Rattle.receiver.specs.declared.Kind.the-variants.{End, Drop, Part}
 use Rattle.instrument.specs.Instrument.{canScale}
+use Rattle.instrument.specs.declared.Instrument.{Instrument}
 use Rattle.effect.specs.Able.{able, Able}
 use Rattle.meter.specs.declared.Meter.{Meter}
 
@@ -15,9 +17,13 @@ use Rattle.meter.specs.declared.Meter.{Meter}
 abbrev pub started : Meter → Bool
 started m = ltZ (pos 0) (m .config .scale .step)
 
--- a sound one has all that scaling, counting and showing lean on
+-- settings and an instrument that scaling, counting and showing can lean on
+abbrev pub workable : Config → Instrument → Bool
+workable c i = canScale (c .scale) && able (c .talking) (c .working) i
+
+-- a sound meter has such
 unfoldable pub sound : Meter → Bool
-sound m = canScale (m .config .scale) && able (m .config .talking) (m .config .working) (m .instrument)
+sound m = workable (m .config) (m .instrument)
 
 -- what an event does: it works on the instrument, or it only goes into the receiver
 pub data Reach : Type 0 where

@@ -1,9 +1,10 @@
 // Which meters are started, and which are sound.
-use crate::Meter;
+use config::Config;
+use instrument::Instrument;
 ghost use mathlib.Core.Path.{_≡_};
 ghost use lib.IntN.{pos};
 ghost use lib.Signed.{ltZ};
-ghost use Rattle.meter.specs.Door.{sound};
+ghost use Rattle.meter.specs.Door.{workable};
 
 // Whether a meter with this rounding step was started: a refusal leaves none.
 pub fn is_started(step: i32) -> bool
@@ -12,16 +13,12 @@ pub fn is_started(step: i32) -> bool
     0 < step
 }
 
-// Whether a meter value has all that scaling, counting and showing lean on.
-pub fn is_sound(m: Meter) -> bool
-    ensures { λ r. ⌜ r ≡ sound m ⌝ }
+// Whether a meter with these settings and this instrument has all that scaling, counting and showing lean on.
+pub fn is_sound(config: Config, instrument: Instrument) -> bool
+    ensures { λ r. ⌜ r ≡ workable config instrument ⌝ }
 {
-    let scale = m.config.scale;
-    let talking = m.config.talking;
-    let working = m.config.working;
-    let instrument = m.instrument;
-    if effect::is_able(talking, working, instrument) {
-        instrument::can_scale(scale)
+    if effect::is_able(config.talking, config.working, instrument) {
+        instrument::can_scale(config.scale)
     } else {
         false
     }

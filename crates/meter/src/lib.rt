@@ -1,6 +1,7 @@
 // The meter: a configuration, the instrument and the receiver, and the four calls that answer every configuration, sample, key and
 // byte. Nothing is left to the caller to check first.
 mod door;
+pub mod slices;
 
 use answer::Answer;
 use config::Config;
@@ -91,7 +92,7 @@ impl Meter {
         ensures { λ r. ⌜ r ≡ sampled self input ⌝ }
     {
         let mut answer = Answer::NotStarted;
-        if is_sound(self) {
+        if is_sound(self.config, self.instrument) {
             let scale = self.config.scale;
             let reading = instrument::read(scale, input);
             let working = self.config.working;
@@ -110,7 +111,7 @@ impl Meter {
         ensures { λ _. ⌜ now (buffer .exit) ≡ keyed self number (now (buffer .entry)) place .buffer ⌝ }
     {
         let mut answer = Answer::NotStarted;
-        if is_sound(self) {
+        if is_sound(self.config, self.instrument) {
             let talking = self.config.talking;
             let working = self.config.working;
             let s = effect::press(talking, working, self.instrument, number, buffer, place);
@@ -145,7 +146,7 @@ impl Meter {
                 }
             }
             Kind::End => {
-                if is_sound(self) {
+                if is_sound(self.config, self.instrument) {
                     let talking = self.config.talking;
                     let working = self.config.working;
                     let s = end(

@@ -26,6 +26,7 @@ dropped-test : (c : tie.After-is-started2) → c .is-started2 .result ≡ starte
 dropped-test c = c .is-started2 .ensures ∙ rw (back (c .before .before .before .before .before .before))
 
 ended-test : (c : tie.After-is-sound) → c .is-sound .result ≡ sound (c .before .before .before .before .before .args .self)
+unfolding sound
 ended-test c = c .is-sound .ensures
 
 kind-of-requires : tie.Need-kind-of-requires
@@ -67,23 +68,23 @@ returns : tie.Need-returns
 returns c =
     let t = c .before in
     let e = t .before .before .before in
-    rw (sym (given (e .before .before)) ∙ e .enum-told .given .1, sym (stored-test (t .before)) ∙ t .if1 .taken, c .stored .ensures) (refl, refl)
+    rw (sym (given (e .before .before)) ∙ e .enum-told .given .1, sym (stored-test (t .before)) ∙ t .if1 .taken, c .stored .ensures) (search needs)
 
 returns-2 : tie.Need-returns-2
 returns-2 c =
     let e = c .before .before .before in
-    rw (sym (given (e .before .before)) ∙ e .enum-told .given .1, sym (stored-test (c .before)) ∙ c .if1 .left) (refl, refl)
+    rw (sym (given (e .before .before)) ∙ e .enum-told .given .1, sym (stored-test (c .before)) ∙ c .if1 .left) (search needs)
 
 returns-3 : tie.Need-returns-3
 returns-3 c =
     let t = c .before in
     let e = t .before .before .before in
-    rw (sym (given (e .before .before)) ∙ e .enum-told2 .given .1, sym (dropped-test (t .before)) ∙ t .if2 .taken, c .emptied .ensures) (refl, refl)
+    rw (sym (given (e .before .before)) ∙ e .enum-told2 .given .1, sym (dropped-test (t .before)) ∙ t .if2 .taken, c .emptied .ensures) (search needs)
 
 returns-4 : tie.Need-returns-4
 returns-4 c =
     let e = c .before .before .before in
-    rw (sym (given (e .before .before)) ∙ e .enum-told2 .given .1, sym (dropped-test (c .before)) ∙ c .if2 .left) (refl, refl)
+    rw (sym (given (e .before .before)) ∙ e .enum-told2 .given .1, sym (dropped-test (c .before)) ∙ c .if2 .left) (search needs)
 
 same-length : tie.Need-same-length
 same-length c = search needs
@@ -93,12 +94,12 @@ returns-5 c =
     let n = c .before .before .before .before in
     let t = n .before .before .before .before in
     let e = t .before .before in
-    rw (sym (given (e .before .before)) ∙ e .enum-told3 .given .1, sym (ended-test (t .before)) ∙ t .if3 .taken, c .emptied2 .ensures, n .end .ensures .0) (refl, n .end .ensures .1)
+    rw (sym (given (e .before .before)) ∙ e .enum-told3 .given .1, sym (ended-test (t .before)) ∙ t .if3 .taken, c .emptied2 .ensures, n .end .ensures .0) (search (n .end .ensures .1))
 
 returns-6 : tie.Need-returns-6
 returns-6 c =
     let e = c .before .before in
-    rw (sym (given (e .before .before)) ∙ e .enum-told3 .given .1, sym (ended-test (c .before)) ∙ c .if3 .left) (refl, refl)
+    rw (sym (given (e .before .before)) ∙ e .enum-told3 .given .1, sym (ended-test (c .before)) ∙ c .if3 .left) (search needs)
 
 pub byte-spec : {M : Type 1} → statement M
 byte-spec =

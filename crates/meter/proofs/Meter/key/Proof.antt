@@ -10,6 +10,7 @@ use Rattle.meter.proofs.Meter.key.Tie as tie
 
 -- the meter is sound
 passed : (c : tie.Then1) → sound (c .before .before .before .args .self) ≡ true
+unfolding sound
 passed c = sym (c .before .is-sound .ensures) ∙ c .if1 .taken
 
 is-sound-requires : tie.Need-is-sound-requires
@@ -25,10 +26,12 @@ returns : tie.Need-returns
 returns c =
     let r = c .before .before .before in
     let t = r .before .before .before .before in
-    rw (passed t, r .press .ensures .0, toZ-ofZ (t .before .before .before .fits .number)) (refl, r .press .ensures .1 ∙ rw (toZ-ofZ (t .before .before .before .fits .number)))
+    let b = rw (toZ-ofZ (t .before .before .before .fits .number)) at (r .press .ensures .1) in
+    rw (passed t, r .press .ensures .0, toZ-ofZ (t .before .before .before .fits .number)) (search b)
 
 returns-2 : tie.Need-returns-2
-returns-2 c = rw (sym (c .before .is-sound .ensures) ∙ c .if1 .left) (refl, refl)
+unfolding sound
+returns-2 c = rw (sym (c .before .is-sound .ensures) ∙ c .if1 .left) (search needs)
 
 pub key-spec : {M : Type 1} → statement M
 key-spec = tie.close (tie.spec is-sound-requires press-requires same-length returns returns-2)

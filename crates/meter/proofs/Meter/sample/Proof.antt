@@ -10,6 +10,7 @@ use Rattle.meter.proofs.Meter.sample.Tie as tie
 
 -- the meter is sound
 passed : (c : tie.Then1) → sound (c .before .before .args .self) ≡ true
+unfolding sound
 passed c = sym (c .before .is-sound .ensures) ∙ c .if1 .taken
 
 parts : (c : tie.Then1) → Sound (c .before .before .args .self)
@@ -30,6 +31,7 @@ returns c =
     rw (passed t, c .sampled .ensures, c .before .before .read .ensures, toZ-ofZ (t .before .before .fits .input))
 
 returns-2 : tie.Need-returns-2
+unfolding sound
 returns-2 c = rw (sym (c .before .is-sound .ensures) ∙ c .if1 .left)
 
 pub sample-spec : {M : Type 1} → statement M

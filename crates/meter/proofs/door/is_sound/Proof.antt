@@ -4,7 +4,6 @@ use mathlib.Core.Path.{_≡_, refl, sym, _∙_}
 use mathlib.Core.Bool.{Bool, true, false, _&&_}
 use Rattle.exact.proofs.Z.{and-false}
 use Rattle.instrument.specs.Instrument.{canScale}
-use Rattle.meter.specs.Door.{sound}
 use Rattle.meter.proofs.door.is_sound.Statement.{statement}
 use Rattle.meter.proofs.door.is_sound.Tie as tie
 
@@ -20,12 +19,10 @@ can-scale-requires : tie.Need-can-scale-requires
 can-scale-requires c κs = search needs
 
 returns : tie.Need-returns
-unfolding sound
 returns c = rw (c .can-scale .ensures, sym (c .before .before .is-able .ensures) ∙ c .before .if1 .taken) (sym (and-true _))
 
 returns-2 : tie.Need-returns-2
-unfolding sound
-returns-2 c = rw (sym (c .before .is-able .ensures) ∙ c .if1 .left) (sym (and-false (canScale (c .before .before .before .before .before .before .args .m .config .scale))))
+returns-2 c = rw (sym (c .before .is-able .ensures) ∙ c .if1 .left) (sym (and-false (canScale (c .before .before .args .config .scale))))
 
 pub is-sound-spec : {M : Type 1} → statement M
 is-sound-spec = tie.close (tie.spec is-able-requires can-scale-requires returns returns-2)

@@ -1,4 +1,4 @@
--- `carry::byte_of` meets its contract: a value that is a byte goes to the public call, any other leaves what stands. Assumes nothing.
+-- `meter::slices::byte_of` meets its contract: a value that is a byte goes to the public call, any other leaves what stands. Assumes nothing.
 use borrow.Author.Needs.{needs}
 use native.Mathlib.Omega.{arith}
 use mathlib.Core.Path.{_≡_, refl, sym, _∙_}
@@ -7,9 +7,9 @@ use mir.Facts.{toZ-ofZ}
 use mir.Syntax.{w32}
 use mir.Val.{toZ, ofZ}
 use Rattle.exact.proofs.Z.{from-to, nonNeg-is}
-use Rattle.carry.specs.CarriedOut.{isByte}
-use Rattle.carry.proofs.byte_of.Statement.{statement}
-use Rattle.carry.proofs.byte_of.Tie as tie
+use Rattle.meter.specs.Slices.{isByte}
+use Rattle.meter.proofs.slices.byte_of.Statement.{statement}
+use Rattle.meter.proofs.slices.byte_of.Tie as tie
 
 back : (c : tie.Start) → toZ w32 (ofZ w32 (c .args .value)) ≡ c .args .value
 back c = toZ-ofZ (c .fits .value)

@@ -1,4 +1,4 @@
--- `carry::carry_out` meets its contract: what is left of the slices makes of the outcome so far what the whole makes of the first one.
+-- `meter::slices::carry_out` meets its contract: what is left of the slices makes of the outcome so far what the whole makes of the first one.
 -- The measure is what is left of the count. Assumes nothing.
 use mathlib.Core.Path.{_≡_, refl, sym, ap, _∙_}
 use mathlib.Core.Bool.{Bool, true, false}
@@ -11,11 +11,11 @@ use borrow.Author.Tests.{leb-true, leb-false}
 use lib.IntN.{pos}
 use lib.ListN.{length, drop, getD}
 use Rattle.exact.proofs.Z.{back32}
 use Rattle.meter.specs.Meter.{Step}
-use Rattle.carry.specs.CarriedOut.{carriedOut}
-use Rattle.carry.proofs.CarriedOut.{carried-next, carried-end}
-use Rattle.carry.proofs.carry_out.Statement.{statement}
-use Rattle.carry.proofs.carry_out.Tie as tie
+use Rattle.meter.specs.Slices.{carriedOut}
+use Rattle.meter.proofs.Carrying.{carried-next, carried-end}
+use Rattle.meter.proofs.slices.carry_out.Statement.{statement}
+use Rattle.meter.proofs.slices.carry_out.Tie as tie
 
 abbrev Inv-loop : tie.InvT-loop
 Inv-loop kinds values places buffer₀ count last₀ i₀ buffer last i =

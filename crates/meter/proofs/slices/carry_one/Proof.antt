@@ -1,12 +1,12 @@
--- `carry::carry_one` meets its contract: each kind goes to its public call. Assumes nothing.
+-- `meter::slices::carry_one` meets its contract: each kind goes to its public call. Assumes nothing.
 use mathlib.Core.Path.{_≡_, refl}
 use borrow.Author.Tests.{ne-eqb}
 use mir.Facts.{toZ-ofZ}
 use mir.Syntax.{w32}
 use mir.Val.{toZ, ofZ}
 use borrow.Author.Needs.{needs}
-use Rattle.carry.proofs.carry_one.Statement.{statement}
-use Rattle.carry.proofs.carry_one.Tie as tie
+use Rattle.meter.proofs.slices.carry_one.Statement.{statement}
+use Rattle.meter.proofs.slices.carry_one.Tie as tie
 
 back : (c : tie.Start) → toZ w32 (ofZ w32 (c .args .value)) ≡ c .args .value
 back c = toZ-ofZ (c .fits .value)
