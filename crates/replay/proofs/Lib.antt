@@ -1,4 +1,1 @@
-pub mod Signs
 pub mod Stream
-pub mod Pieces
-pub mod Cases

@@ -13,6 +13,7 @@ use Rattle.record.specs.Record.{wordCount, eventHeard, readHeard, stored}
 use Rattle.record.specs.declared.Event.{Event}
 use Rattle.record.specs.declared.Event.the-variants.{Configuration}
 use Rattle.record.proofs.Meaning.{stored-size, configured}
+use Rattle.show.specs.Show.{unwritten}
 use Rattle.replay.specs.Replay.{filled, sampleStep, answered, effectBy, effect, shownOf, stand, standAfter, heardBy}
 use Rattle.replay.specs.declared.Told.{Told}
 
@@ -22,13 +23,13 @@ more : (x i : ℕ) → replicate i x ++ (x ∷ []) ≡ replicate (suc i) x
 more x zero = refl
 more x (suc i) = ap (λ (l : List ℕ). x ∷ l) (more x i)
 
-pub filled-on : (l : List ℕ) (i : ℕ) → i < length l → take i l ≡ replicate i 238 → take (i + 1) (set l i 238) ≡ replicate (i + 1) 238
-filled-on l i h e = rw (add-one i) (take-suc-set l i 238 h ∙ ap (λ (k : List ℕ). k ++ (238 ∷ [])) e ∙ more 238 i)
+pub filled-on : (l : List ℕ) (i : ℕ) → i < length l → take i l ≡ replicate i unwritten → take (i + 1) (set l i unwritten) ≡ replicate (i + 1) unwritten
+filled-on l i h e = rw (add-one i) (take-suc-set l i unwritten h ∙ ap (λ (k : List ℕ). k ++ (unwritten ∷ [])) e ∙ more unwritten i)
 
-pub filled-out : (l old : List ℕ) (i : ℕ) → i ≡ length l → length l ≡ length old → take i l ≡ replicate i 238 → l ≡ filled old
+pub filled-out : (l old : List ℕ) (i : ℕ) → i ≡ length l → length l ≡ length old → take i l ≡ replicate i unwritten → l ≡ filled old
 unfolding filled
 filled-out l old i p q e =
-    sym (take-length l) ∙ ap (λ (n : ℕ). take n l) (sym p) ∙ e ∙ ap (λ (n : ℕ). replicate n 238) (p ∙ q)
+    sym (take-length l) ∙ ap (λ (n : ℕ). take n l) (sym p) ∙ e ∙ ap (λ (n : ℕ). replicate n unwritten) (p ∙ q)
 
 -- ---- a line
 

@@ -19,13 +19,13 @@ use Rattle.replay.specs.declared.Said.{Said}
 use Rattle.replay.specs.declared.Said.the-variants.{PoweredUp, Answered, Unknown}
 use Rattle.replay.specs.declared.State.{State}
 use Rattle.replay.specs.declared.Told.{Told}
-use Rattle.replay.specs.Show.{powerLine, eventLine}
+use Rattle.show.specs.Show.{unwritten, powerLine, eventLine}
 
 -- ---- events
 
--- EE (hex) everywhere
+-- nothing is written in it
 unfoldable pub filled : List ℕ → List ℕ
-filled buffer = replicate (length buffer) 0xEE
+filled buffer = replicate (length buffer) unwritten
 
 unfoldable pub powerStep : Config → List ℕ → Step
 powerStep c buffer = record { outcome = poweredUp c; buffer = filled buffer }
@@ -108,6 +108,6 @@ heardBy s h = standAfter (s .out) (effect (s .meter) (s .buffer) h)
 abbrev pub begun : State
 begun = record { meter = notStarted; len = 0; out = record { at = 0; ok = true } }
 
--- what waits after a whole stream, from a buffer of 170 bytes EE on
+-- what waits after a whole stream, from a buffer of 170 bytes on in which nothing is written
 abbrev pub printedOf : List ℕ → List ℕ → Waiting
-printedOf room stream = ran heardBy (standing begun (replicate 170 0xEE) room) (allLines stream) .out
+printedOf room stream = ran heardBy (standing begun (replicate 170 unwritten) room) (allLines stream) .out

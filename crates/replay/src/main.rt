@@ -1,10 +1,8 @@
 // Any recorded history carried out again: each line of standard input is a configuration, a sample, a key or a received byte, and for
 // each one line is printed that shows the answer, the whole state of the meter and the reply buffer. `?` stands for any other line,
-// which changes nothing. The crate `record` has the lines, `show.rt` what is printed.
+// which changes nothing. The crate `record` has the lines, `show` what is printed.
 //
 // Standard input is read in blocks, and standard output written in blocks, so the memory is the same for any input.
-mod show;
-
 ghost use Prim.Native.Nat.{ℕ, _≤_};
 ghost use mathlib.Core.Path.{_≡_};
 ghost use mathlib.Core.List.{List};
@@ -21,6 +19,7 @@ use meter::Meter;
 use meter::Outcome;
 use record::Event;
 use record::WORDS;
+use show::UNWRITTEN;
 use text::KEPT;
 use text::Step;
 use text::output::Out;
@@ -53,13 +52,13 @@ struct Turn {
 
 // ---- one line
 
-// The buffer of a configuration's line: EE (hex) everywhere.
+// The buffer of a configuration's line: nothing is written in it.
 fn fill(buffer: &mut [u8])
     ensures { λ _. ⌜ now (buffer .exit) ≡ filled (now (buffer .entry)) ⌝ }
 {
     let mut i = 0;
     while i < buffer.len() {
-        buffer[i] = 238;
+        buffer[i] = UNWRITTEN;
         i += 1;
     }
 }
@@ -339,7 +338,7 @@ fn played(block: &mut [u8], buf: &mut [u8]) -> Out
 {
     let mut line = [0u8; KEPT];
     let mut settings = [0i32; WORDS];
-    let mut buffer = [238u8; 170];
+    let mut buffer = [UNWRITTEN; 170];
     let s = run(
         &mut *block,
         &mut line,
