@@ -8,7 +8,7 @@ ghost use Prim.Native.Nat.{ℕ, _≤_, _<_};
 ghost use mathlib.Core.Path.{_≡_};
 ghost use mathlib.Core.List.{List};
 ghost use lib.ListN.{length, drop, take};
-ghost use Rattle.text.specs.Line.{heard, goesOn, countAfter, Carried, Turned, Streamed, stepped, finished};
+ghost use Rattle.text.specs.Line.{heard, goesOn, Carried, Turned, Streamed, finished};
 ghost use Rattle.text.specs.Output.{waiting, puts};
 ghost use Rattle.bench.specs.Grammar.{Payload};
 ghost use Rattle.bench.specs.Show.{numberLine, replyPieces, answerPieces, shownOf};
@@ -20,7 +20,6 @@ use libc::STDIN_FILENO;
 use meter::Meter;
 use meter::Outcome;
 use text::KEPT;
-use text::Step;
 use text::output::Out;
 
 // What a line is told: the answer of its last event, or that it is no line of this program.
@@ -159,19 +158,6 @@ fn put_said(buf: &mut [u8], o: Out, reply: &[u8], said: Said) -> Out
 
 // ---- the stream
 
-// After a step of the line: the event, where it ended.
-fn stepped(line: &[u8; KEPT], reply: &mut [u8], buf: &mut [u8], s: State, f: Step) -> State
-    ensures { λ r. ⌜ r .len ≡ countAfter f ⌝ }
-    ensures { λ r. ⌜ standing r (now (reply .exit)) (now (buf .exit)) ≡ stepped heardBy (standing s (now (reply .entry)) (now (buf .entry))) (now (line .entry)) f ⌝ }
-{
-    if f.ended {
-        return answered(line, f.len, reply, buf, s);
-    }
-    let mut t = s;
-    t.len = f.len;
-    t
-}
-
 // A line that has ended: its event, and what it is told.
 fn answered(line: &[u8; KEPT], len: usize, reply: &mut [u8], buf: &mut [u8], s: State) -> State
     ensures { λ r. ⌜ r .len ≡ 0 ⌝ }
@@ -184,7 +170,7 @@ fn answered(line: &[u8; KEPT], len: usize, reply: &mut [u8], buf: &mut [u8], s: 
     State { meter, len: 0, out }
 }
 
-// The lines that a block ends, and the start of the one that it leaves open.
+// The lines that a block ends, with an event each, and the start of the one that it leaves open.
 fn lines(block: &[u8], line: &mut [u8; KEPT], reply: &mut [u8], buf: &mut [u8], s: State) -> State
     ensures { λ r. ⌜ Carried heardBy (now (block .entry)) (now (line .entry)) (s .len) (standing s (now (reply .entry)) (now (buf .entry))) (standing r (now (reply .exit)) (now (buf .exit))) (now (line .exit)) (r .len) ⌝ }
 {
@@ -193,7 +179,11 @@ fn lines(block: &[u8], line: &mut [u8; KEPT], reply: &mut [u8], buf: &mut [u8], 
     while at < block.len() {
         let f = text::feed(&mut *line, t.len, &block[at..]);
         at += f.used;
-        t = stepped(&*line, &mut *reply, &mut *buf, t, f);
+        if f.ended {
+            t = answered(&*line, f.len, &mut *reply, &mut *buf, t);
+        } else {
+            t.len = f.len;
+        }
     }
     t
 }

@@ -7,7 +7,7 @@ ghost use Prim.Native.Nat.{ℕ, _≤_};
 ghost use mathlib.Core.Path.{_≡_};
 ghost use mathlib.Core.List.{List};
 ghost use lib.ListN.{length, take};
-ghost use Rattle.text.specs.Line.{heard, goesOn, countAfter, Carried, Turned, Streamed, stepped, finished};
+ghost use Rattle.text.specs.Line.{heard, goesOn, Carried, Turned, Streamed, finished};
 ghost use Rattle.text.specs.Output.{waiting, puts};
 ghost use Rattle.record.specs.Record.{wordCount};
 ghost use Rattle.record.specs.Configuration.{configOf};
@@ -21,7 +21,6 @@ use record::Event;
 use record::WORDS;
 use show::UNWRITTEN;
 use text::KEPT;
-use text::Step;
 use text::output::Out;
 
 // What is shown of a line: the answer of a configuration, or an event's with the whole state, or that it is no line of a history.
@@ -172,27 +171,7 @@ fn answered(
     State { meter, len: 0, out }
 }
 
-// After a step of the line: the event, where it ended.
-fn stepped(
-    line: &[u8; KEPT],
-    settings: &mut [i32; WORDS],
-    buffer: &mut [u8],
-    buf: &mut [u8],
-    s: State,
-    f: Step,
-) -> State
-    ensures { λ r. ⌜ r .len ≡ countAfter f ⌝ }
-    ensures { λ r. ⌜ standing r (now (buffer .exit)) (now (buf .exit)) ≡ stepped heardBy (standing s (now (buffer .entry)) (now (buf .entry))) (now (line .entry)) f ⌝ }
-{
-    if f.ended {
-        return answered(line, f.len, settings, buffer, buf, s);
-    }
-    let mut t = s;
-    t.len = f.len;
-    t
-}
-
-// The lines that a block ends, and the start of the one that it leaves open.
+// The lines that a block ends, with an event each, and the start of the one that it leaves open.
 fn lines(
     block: &[u8],
     line: &mut [u8; KEPT],
@@ -208,7 +187,11 @@ fn lines(
     while at < block.len() {
         let f = text::feed(&mut *line, t.len, &block[at..]);
         at += f.used;
-        t = stepped(&*line, &mut *settings, &mut *buffer, &mut *buf, t, f);
+        if f.ended {
+            t = answered(&*line, f.len, &mut *settings, &mut *buffer, &mut *buf, t);
+        } else {
+            t.len = f.len;
+        }
     }
     t
 }

@@ -10,7 +10,7 @@ use lib.ListN.{length, take, drop}
 use lib.Seq.{drop-length, drop-drop, length-take-le}
 use borrow.Author.Tests.{eq-eqb, ne-eqb, leb-true}
 use Rattle.exact.proofs.Z.{never}
-use Rattle.text.specs.Line.{keptBytes, Scanned, scan, Heard, bytes, long, heard, kept, before, after, has, Feeds, Cut, cut, lines, unended, allLines, goesOn, countAfter, Stands, ran, Carried, Turned, Streamed, stepped, finished}
+use Rattle.text.specs.Line.{keptBytes, Scanned, scan, Heard, bytes, long, heard, kept, before, after, has, Feeds, Cut, cut, lines, unended, allLines, goesOn, Stands, ran, Carried, Turned, Streamed, finished}
 use Rattle.text.specs.declared.Step.{Step}
 use Rattle.text.proofs.Laws.{rest}
 use Rattle.text.proofs.Lines.{feeds, empty-kept, cut-ended, cut-open, cut-blocks, cut-behind}
@@ -122,30 +122,29 @@ module _ {A : Type 0} (event : A → Heard → A) where
           state = r .state;
         }
 
-  -- one turn: a line is fed, and where it ended there is an event
-  pub turns : {block line₀ : List ℕ} {len₀ : ℕ} {a₀ a a' : A} {line line' : List ℕ} {len len' at : ℕ} {f : Step}
-      → Reaches block line₀ len₀ a₀ a line len at
-      → f ≡ scan 0 (take (length block - at) (drop at block)) line len .step
-      → line' ≡ scan 0 (take (length block - at) (drop at block)) line len .line
-      → len' ≡ countAfter f
-      → a' ≡ stepped event a line' f
-      → Reaches block line₀ len₀ a₀ a' line' len' (at + f .used)
-  unfolding countAfter stepped
-  turns {block} {line₀} {len₀} {a₀} {a} {a'} {line} {line'} {len} {len'} {at} reached p q u v l h =
-      let r = reached l h in
-      let x = scan 0 (drop at block) line len in
-      let g = feeds (drop at block) line len (r .since) (r .stands .size) (r .stands .keeps) in
-      rw (u, v, p, q, rest at block) (step-on block l a₀ a line len at r x g (x .step .ended) (sym (g .ends)))
+  module _ {block line₀ : List ℕ} {len₀ : ℕ} {a₀ a a' : A} {line line' : List ℕ} {len len' at : ℕ} {f : Step}
+      (reached : Reaches block line₀ len₀ a₀ a line len at)
+      (p : f ≡ scan 0 (take (length block - at) (drop at block)) line len .step)
+      (q : line' ≡ scan 0 (take (length block - at) (drop at block)) line len .line) where
+    -- one turn, in which a line is fed: where it ended there is its event, and the next one begins
+    pub turn-ended : f .ended ≡ true → len' ≡ 0 → a' ≡ event a (heard line' (f .len)) → Reaches block line₀ len₀ a₀ a' line' len' (at + f .used)
+    turn-ended e u v l h =
+        let r = reached l h in
+        let x = scan 0 (drop at block) line len in
+        let g = feeds (drop at block) line len (r .since) (r .stands .size) (r .stands .keeps) in
+        let t : x .step .ended ≡ true = rw (p, rest at block) at e in
+        rw (u, v, p, q, rest at block) (step-on block l a₀ a line len at r x g true (sym (g .ends) ∙ t))
 
-  -- a step that ended a line, and one that did not; the last line, and none
-  pub step-ended : (a : A) (line : List ℕ) (f : Step) → f .ended ≡ true → (0 ≡ countAfter f) × (event a (heard line (f .len)) ≡ stepped event a line f)
-  unfolding countAfter stepped
-  step-ended a line f e = rw e (refl, refl)
+    -- and where it did not it is read on
+    pub turn-open : f .ended ≡ false → len' ≡ f .len → a' ≡ a → Reaches block line₀ len₀ a₀ a' line' len' (at + f .used)
+    turn-open e u v l h =
+        let r = reached l h in
+        let x = scan 0 (drop at block) line len in
+        let g = feeds (drop at block) line len (r .since) (r .stands .size) (r .stands .keeps) in
+        let t : x .step .ended ≡ false = rw (p, rest at block) at e in
+        rw (u, v, p, q, rest at block) (step-on block l a₀ a line len at r x g false (sym (g .ends) ∙ t))
 
-  pub step-open : (a : A) (line : List ℕ) (f : Step) → f .ended ≡ false → (f .len ≡ countAfter f) × (a ≡ stepped event a line f)
-  unfolding countAfter stepped
-  step-open a line f e = rw e (refl, refl)
-
+  -- the last line, and none
   pub last-none : (a : A) (line : List ℕ) (len : ℕ) → len ≡ 0 → a ≡ finished event a line len
   unfolding finished
   last-none a line len e = rw (eq-eqb len 0 e)

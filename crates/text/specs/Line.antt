@@ -105,10 +105,6 @@ allLines stream = lines [] stream .done ++ unended (lines [] stream .since)
 abbrev pub goesOn : ℕ → Bool → Bool
 goesOn came ok = not (eqb came 0) && ok
 
--- the count of the line that is read on after a step
-unfoldable pub countAfter : Step → ℕ
-countAfter f = cond (f .ended) 0 (f .len)
-
 -- an array and a count stand for the bytes l of a line
 pub record Stands (l line : List ℕ) (len : ℕ) : Type 0 where
   pub keeps : heard line len ≡ kept l
@@ -139,10 +135,6 @@ module _ {A : Type 0} (event : A → Heard → A) where
   pub record Streamed (line : List ℕ) (len : ℕ) (a a' : A) (line' : List ℕ) (len' : ℕ) : Type 0 where
     pub stream : List ℕ
     pub carries : Carried stream line len a a' line' len'
-
-  -- after a step of a line: its event, where it ended
-  unfoldable pub stepped : A → List ℕ → Step → A
-  stepped a line f = cond (f .ended) (event a (heard line (f .len))) a
 
   -- at the stream's end: a last line that no LF ends counts, where it has a byte
   unfoldable pub finished : A → List ℕ → ℕ → A

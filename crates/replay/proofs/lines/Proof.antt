@@ -7,7 +7,7 @@ use Prim.Native.Nat.{_≤_, _-_}
 use lib.ListN.{length}
 use Rattle.text.specs.Line.{Used}
 use Rattle.text.proofs.Laws.{ahead}
-use Rattle.text.proofs.Streams.{Reaches, begins, turns, ends}
+use Rattle.text.proofs.Streams.{Reaches, begins, turn-ended, turn-open, ends}
 use Rattle.replay.specs.Replay.{standing, heardBy}
 use Rattle.replay.proofs.lines.Statement.{statement}
 use Rattle.replay.proofs.lines.Tie as tie
@@ -45,23 +45,36 @@ read-on c =
 add-at : tie.Need-add-at Inv-loop μ-loop
 add-at c = omega (arith, read-on c)
 
-stepped-requires : tie.Need-stepped-requires Inv-loop μ-loop
-stepped-requires c κs = search needs
+answered-requires : tie.Need-answered-requires Inv-loop μ-loop
+answered-requires c κs = search needs
 
+-- where the line ended
 loop-less : tie.Need-loop-less Inv-loop μ-loop
-loop-less c =
-    let u = read-on (c .before .before .before .before .before .before .before .before .before) in
-    omega (arith, u .on (omega arith))
+loop-less c = let u = read-on (c .before .before .before .before .before .before .before .before .before .before) in omega (arith, u .on (omega arith))
 
 loop-again : tie.Need-loop-again Inv-loop μ-loop
 loop-again c =
-    let l = c .before .before .before .before .before .before .before .before .before .before .before .before .before .before .loop in
-    let f = c .before .before .before .before .before .before .before .before .before .before .feed .ensures in
-    let s = c .before .before .before .before .stepped .ensures in (
-      omega (arith, read-on (c .before .before .before .before .before .before .before .before .before)),
+    let l = c .before .before .before .before .before .before .before .before .before .before .before .before .before .before .before .loop in
+    let f = c .before .before .before .before .before .before .before .before .before .before .before .feed .ensures in
+    let s = c .before .before .before .before .answered .ensures in (
+      omega (arith, read-on (c .before .before .before .before .before .before .before .before .before .before)),
       c .before .before .before .buffer .given ∙ l .inv .1,
       c .before .buf .given ∙ l .inv .2,
-      turns heardBy (l .inv .3) (f .0) (f .1 .0) (s .0) (s .1),
+      turn-ended heardBy (l .inv .3) (f .0) (f .1 .0) (c .before .before .before .before .before .before .before .before .before .if1 .taken) (s .0) (s .1),
+    )
+
+-- and where it is read on
+loop-less-2 : tie.Need-loop-less-2 Inv-loop μ-loop
+loop-less-2 c = let u = read-on (c .before) in omega (arith, u .on (omega arith))
+
+loop-again-2 : tie.Need-loop-again-2 Inv-loop μ-loop
+loop-again-2 c =
+    let l = c .before .before .before .before .before .before .loop in
+    let f = c .before .before .feed .ensures in (
+      omega (arith, read-on (c .before)),
+      l .inv .1,
+      l .inv .2,
+      turn-open heardBy (l .inv .3) (f .0) (f .1 .0) (c .if1 .left) refl refl,
     )
 
 same-length : tie.Need-same-length Inv-loop μ-loop
@@ -85,9 +98,11 @@ lines-spec =
     part-feed-end
     feed-requires
     add-at
-    stepped-requires
+    answered-requires
     loop-less
     loop-again
+    loop-less-2
+    loop-again-2
     same-length
     same-length-2
     returns)
