@@ -31,6 +31,7 @@ module _ (c : Config) where
 
   one : (h : History) (o : Step) (kind : ℕ) (value : ℤ) (place : ℕ) → o .outcome ≡ lastOutcome c h
       → carriedOne o kind value place .outcome ≡ lastOutcome c (behind (encoded (o .buffer) kind value place) h)
+  unfolding carriedOne
   one h o kind value place e = one-by h o value place (eqb kind 0) (eqb kind 1) (eqb kind 2 && isByte value) e
 
   as-history : (h : History) (o : Step) (kinds : List ℕ) (values : List ℤ) (places : List ℕ) → o .outcome ≡ lastOutcome c h

@@ -18,7 +18,7 @@ EveryByte = (b : ℕ) → b < 256 → isByte (pos b) ≡ true
 
 -- an entry of kind 0 is a sample, of kind 1 a key, of kind 2 a byte where its value is one. Any other encodes no event: the outcome
 -- before it stands, and the buffer is as it was
-abbrev pub carriedOne : Step → ℕ → ℤ → ℕ → Step
+unfoldable pub carriedOne : Step → ℕ → ℤ → ℕ → Step
 carriedOne o kind value place =
     cond (eqb kind 0) (record { outcome = sampled (o .outcome .meter) value; buffer = o .buffer })
     (cond (eqb kind 1) (keyed (o .outcome .meter) value (o .buffer) place)

@@ -7,7 +7,7 @@ use mir.Facts.{toZ-ofZ}
 use mir.Syntax.{w32}
 use mir.Val.{toZ, ofZ}
 use Rattle.exact.proofs.Z.{from-to, nonNeg-is}
-use Rattle.meter.specs.Slices.{isByte}
+use Rattle.meter.specs.Slices.{isByte, carriedOne}
 use Rattle.meter.proofs.slices.byte_of.Statement.{statement}
 use Rattle.meter.proofs.slices.byte_of.Tie as tie
 
@@ -33,12 +33,14 @@ same-length : tie.Need-same-length
 same-length c = search needs
 
 returns : tie.Need-returns
+unfolding carriedOne
 returns c =
     let e = c .before .before .byte .ensures in
     let b = rw (back (c .before .before .before .before .before .before .before .before)) at e in
     rw (is (c .before .before .before .before .before)) b
 
 returns-2 : tie.Need-returns-2
+unfolding carriedOne
 returns-2 c = let e = rw (back (c .before .before .before)) at (sym (c .before .is-byte .ensures) ∙ c .if1 .left) in rw e (refl, refl)
 
 pub byte-of-spec : {M : Type 1} → statement M

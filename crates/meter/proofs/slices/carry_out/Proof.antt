@@ -13,7 +13,7 @@ use lib.ListN.{length, drop, getD}
 use Rattle.exact.proofs.Z.{back32}
 use Rattle.meter.specs.Meter.{Step}
 use Rattle.meter.specs.Slices.{carriedOut}
-use Rattle.meter.proofs.Carrying.{carried-next, carried-end}
+use Rattle.meter.proofs.Carrying.{carried-on, carried-end}
 use Rattle.meter.proofs.slices.carry_out.Statement.{statement}
 use Rattle.meter.proofs.slices.carry_out.Tie as tie
 
@@ -58,10 +58,6 @@ add-i c = search needs
 loop-less : tie.Need-loop-less Inv-loop μ-loop
 loop-less c = search needs
 
--- the next outcome and buffer, from the two halves of what one entry gives
-both : (o : Step) (n : Step) → (o .outcome ≡ n .outcome) × (o .buffer ≡ n .buffer) → o ≡ n
-both o n p = ap (λ r. record { outcome = r; buffer = o .buffer }) (p .0) ∙ ap (λ b. record { outcome = n .outcome; buffer = b }) (p .1)
-
 loop-again : tie.Need-loop-again Inv-loop μ-loop
 loop-again c =
     let l = c .before .before .before .before .before .before .before .before .loop in
@@ -71,8 +67,7 @@ loop-again c =
     let p = s .places .now in (
       omega arith,
       search needs,
-      ap (λ (o : Step). carriedOut o (drop (l .i + 1) k) (drop (l .i + 1) v) (drop (l .i + 1) p)) (both _ _ (rw (back32 (getD v (l .i) (pos 0)) (c .before .before .before .before .before .carry-one-arg .given)) at (c .before .before .carry-one .ensures)))
-          ∙ sym (carried-next (record { outcome = l .last; buffer = l .buffer }) k v p (l .i) (omega arith) (omega arith) (omega arith)) ∙ l .inv .2,
+      carried-on (record { outcome = l .last; buffer = l .buffer }) _ k v p (l .i) (omega arith) (omega arith) (omega arith) (rw (back32 (getD v (l .i) (pos 0)) (c .before .before .before .before .before .carry-one-arg .given)) at (c .before .before .carry-one .ensures)) (l .inv .2),
     )
 
 -- where the count is reached, one of the slices is at its end
