@@ -126,23 +126,21 @@ module _ {A : Type 0} (event : A → Heard → A) where
       (reached : Reaches block line₀ len₀ a₀ a line len at)
       (p : f ≡ scan 0 (take (length block - at) (drop at block)) line len .step)
       (q : line' ≡ scan 0 (take (length block - at) (drop at block)) line len .line) where
-    -- one turn, in which a line is fed: where it ended there is its event, and the next one begins
-    pub turn-ended : f .ended ≡ true → len' ≡ 0 → a' ≡ event a (heard line' (f .len)) → Reaches block line₀ len₀ a₀ a' line' len' (at + f .used)
-    turn-ended e u v l h =
+    turned : (t : Bool) → f .ended ≡ t → len' ≡ cond t 0 (f .len) → a' ≡ cond t (event a (heard line' (f .len))) a → Reaches block line₀ len₀ a₀ a' line' len' (at + f .used)
+    turned t e u v l h =
         let r = reached l h in
         let x = scan 0 (drop at block) line len in
         let g = feeds (drop at block) line len (r .since) (r .stands .size) (r .stands .keeps) in
-        let t : x .step .ended ≡ true = rw (p, rest at block) at e in
-        rw (u, v, p, q, rest at block) (step-on block l a₀ a line len at r x g true (sym (g .ends) ∙ t))
+        let w : x .step .ended ≡ t = rw (p, rest at block) at e in
+        rw (u, v, p, q, rest at block) (step-on block l a₀ a line len at r x g t (sym (g .ends) ∙ w))
+
+    -- one turn, in which a line is fed: where it ended there is its event, and the next one begins
+    pub turn-ended : f .ended ≡ true → len' ≡ 0 → a' ≡ event a (heard line' (f .len)) → Reaches block line₀ len₀ a₀ a' line' len' (at + f .used)
+    turn-ended = turned true
 
     -- and where it did not it is read on
     pub turn-open : f .ended ≡ false → len' ≡ f .len → a' ≡ a → Reaches block line₀ len₀ a₀ a' line' len' (at + f .used)
-    turn-open e u v l h =
-        let r = reached l h in
-        let x = scan 0 (drop at block) line len in
-        let g = feeds (drop at block) line len (r .since) (r .stands .size) (r .stands .keeps) in
-        let t : x .step .ended ≡ false = rw (p, rest at block) at e in
-        rw (u, v, p, q, rest at block) (step-on block l a₀ a line len at r x g false (sym (g .ends) ∙ t))
+    turn-open = turned false
 
   -- the last line, and none
   pub last-none : (a : A) (line : List ℕ) (len : ℕ) → len ≡ 0 → a ≡ finished event a line len
