@@ -275,6 +275,13 @@ pub le-refl : (a : ℤ) → leZ a a ≡ true
 le-refl (pos a) = le-leb a a (omega arith)
 le-refl (negsuc a) = le-leb a a (omega arith)
 
+-- neither lies above the other
+pub le-both : (a b : ℤ) → leZ a b ≡ true → leZ b a ≡ true → a ≡ b
+le-both (pos a) (pos b) e f = let p = leb-true a b e in let q = leb-true b a f in ap pos (omega arith)
+le-both (pos a) (negsuc b) e f = never e
+le-both (negsuc a) (pos b) e f = never f
+le-both (negsuc a) (negsuc b) e f = let p = leb-true b a e in let q = leb-true a b f in ap negsuc (omega arith)
+
 pub lt-le : (a b : ℤ) → ltZ a b ≡ true → leZ a b ≡ true
 lt-le (pos a) (pos b) e = le-leb a b (omega (arith, ltb-true))
 lt-le (pos a) (negsuc b) e = never e

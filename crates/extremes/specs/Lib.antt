@@ -1,3 +1,5 @@
 pub mod Extremes
+pub mod History
 pub mod Mirror
+pub mod Takes
 pub mod Cases

@@ -1,8 +1,9 @@
-// Max and min: the largest and the smallest number read, each with the run of samples that lie beyond it.
+// Max and min: the largest and the smallest number read, each with the run of samples that lie beyond it. A completed run gives the
+// reading of it that is nearest to what was kept, so that one spike among other readings is never taken.
 use reading::Reading;
 use run::Run;
 ghost use mathlib.Core.Path.{_≡_};
-ghost use Rattle.extremes.specs.Extremes.{beyond, moved, compared, sampled, reset, shown};
+ghost use Rattle.extremes.specs.Extremes.{taken, beyond, nearer, soMany, closest, moved, compared, sampled, reset, shown, remembered, sound};
 
 // Max and min are one thing seen from two sides.
 pub enum Side {
@@ -16,10 +17,27 @@ pub enum Kept {
     Holds(i32),
 }
 
-// A max or a min, and the run of successive samples beyond it.
+// The run of successive samples beyond what is kept.
+pub enum Streak {
+    // None goes on.
+    Idle,
+    // So many readings, and of them the one nearest to what is kept: the least of a max's run, the greatest of a min's.
+    Lasts(u32, i32),
+}
+
+// A max or a min, and its run.
 pub struct Extreme {
     pub kept: Kept,
-    pub run: u32,
+    pub run: Streak,
+}
+
+// A number is taken: it is kept, and no run goes on.
+fn taken(number: i32) -> Extreme
+    ensures { λ r. ⌜ r ≡ taken number ⌝ }
+{
+    let kept = Kept::Holds(number);
+    let run = Streak::Idle;
+    Extreme { kept, run }
 }
 
 // Whether a number lies beyond the kept one: above a max, below a min.
@@ -32,18 +50,50 @@ fn beyond(side: Side, number: i32, kept: i32) -> bool
     }
 }
 
-// What is kept after a sample's number has been counted.
+// Of two numbers beyond the kept one, the one nearer to it.
+fn nearer(side: Side, number: i32, other: i32) -> i32
+    ensures { λ r. ⌜ r ≡ nearer side number other ⌝ }
+{
+    if beyond(side, number, other) {
+        other
+    } else {
+        number
+    }
+}
+
+// How many readings a run has.
+fn so_many(run: Streak) -> u32
+    ensures { λ r. ⌜ r ≡ soMany run ⌝ }
+{
+    match run {
+        Streak::Idle => 0,
+        Streak::Lasts(n, _) => n,
+    }
+}
+
+// Of a run's readings and one more, the nearest to the kept number.
+fn closest(side: Side, run: Streak, number: i32) -> i32
+    ensures { λ r. ⌜ r ≡ closest side run number ⌝ }
+{
+    match run {
+        Streak::Idle => number,
+        Streak::Lasts(_, before) => nearer(side, before, number),
+    }
+}
+
+// What a sample leaves once it is counted; this is the closest number of the run that it lengthens.
 fn moved(e: Extreme, number: i32, run: Run) -> Extreme
     ensures { λ r. ⌜ r ≡ moved e number run ⌝ }
 {
     let kept = e.kept;
+    let ended = Streak::Idle;
     match run {
-        Run::Broken => Extreme { kept, run: 0 },
-        Run::Going(n) => Extreme { kept, run: n },
-        Run::Complete => Extreme {
-            kept: Kept::Holds(number),
-            run: 0,
-        },
+        Run::Broken => Extreme { kept, run: ended },
+        Run::Going(n) => {
+            let run = Streak::Lasts(n, number);
+            Extreme { kept, run }
+        }
+        Run::Complete => taken(number),
     }
 }
 
@@ -53,13 +103,11 @@ fn compared(side: Side, capture: i32, e: Extreme, number: i32) -> Extreme
 {
     let kept = e.kept;
     match kept {
-        Kept::Empty => Extreme {
-            kept: Kept::Holds(number),
-            run: 0,
-        },
+        Kept::Empty => taken(number),
         Kept::Holds(k) => {
-            let next = run::counted(e.run, beyond(side, number, k), run::samples(capture));
-            moved(e, number, next)
+            let run = e.run;
+            let next = run::counted(so_many(run), beyond(side, number, k), run::samples(capture));
+            moved(e, closest(side, run, number), next)
         }
     }
 }
@@ -69,11 +117,12 @@ pub fn sampled(side: Side, capture: i32, e: Extreme, reading: Reading) -> Extrem
     ensures { λ r. ⌜ r ≡ sampled side capture e reading ⌝ }
 {
     let kept = e.kept;
+    let ended = Streak::Idle;
     match reading {
-        Reading::Nothing => Extreme { kept, run: 0 },
-        Reading::Under => Extreme { kept, run: 0 },
+        Reading::Nothing => Extreme { kept, run: ended },
+        Reading::Under => Extreme { kept, run: ended },
         Reading::Number(v) => compared(side, capture, e, v),
-        Reading::Over => Extreme { kept, run: 0 },
+        Reading::Over => Extreme { kept, run: ended },
     }
 }
 
@@ -81,23 +130,15 @@ pub fn sampled(side: Side, capture: i32, e: Extreme, reading: Reading) -> Extrem
 pub fn reset(reading: Reading) -> Extreme
     ensures { λ r. ⌜ r ≡ reset reading ⌝ }
 {
+    let empty = Extreme {
+        kept: Kept::Empty,
+        run: Streak::Idle,
+    };
     match reading {
-        Reading::Nothing => Extreme {
-            kept: Kept::Empty,
-            run: 0,
-        },
-        Reading::Under => Extreme {
-            kept: Kept::Empty,
-            run: 0,
-        },
-        Reading::Number(v) => Extreme {
-            kept: Kept::Holds(v),
-            run: 0,
-        },
-        Reading::Over => Extreme {
-            kept: Kept::Empty,
-            run: 0,
-        },
+        Reading::Nothing => empty,
+        Reading::Under => empty,
+        Reading::Number(v) => taken(v),
+        Reading::Over => empty,
     }
 }
 
@@ -110,4 +151,22 @@ pub fn shown(e: Extreme) -> Reading
         Kept::Empty => Reading::Nothing,
         Kept::Holds(k) => Reading::Number(k),
     }
+}
+
+// What the run remembers: a number while it goes on, else none.
+fn remembered(run: Streak) -> Reading
+    ensures { λ r. ⌜ r ≡ remembered run ⌝ }
+{
+    match run {
+        Streak::Idle => Reading::Nothing,
+        Streak::Lasts(_, number) => Reading::Number(number),
+    }
+}
+
+// Whether what is kept and what the run remembers can be displayed: a completed run makes the second the first.
+pub fn is_sound(e: Extreme) -> bool
+    ensures { λ r. ⌜ r ≡ sound e ⌝ }
+{
+    let run = e.run;
+    reading::is_displayable(shown(e)) & reading::is_displayable(remembered(run))
 }

@@ -19,6 +19,7 @@ use Rattle.total.specs.declared.Range.the-variants.{Within, Under as RangeUnder
 use Rattle.total.specs.declared.Total.{Total}
 use Rattle.total.specs.declared.Totalizer.{Totalizer}
 use Rattle.extremes.specs.Extremes as extremes
+use Rattle.extremes.proofs.Laws.{sound-parts}
 use Rattle.alarms.specs.Alarms.{setpointOf}
 use Rattle.config.specs.Config.{placesRule}
 use Rattle.config.specs.declared.Places.{Places}
@@ -60,8 +61,8 @@ shown-size w i e r h =
     let small : Reading → Type 0 = λ x. size x < 10 ^ 9 in
     either small (eqb r (at "A")) (display-size (i .measured .reading) (m .reading))
     (either small (eqb r (at "B")) (total-size (w .totalizer) (i .measured .total) (m .total))
-    (either small (eqb r (at "C")) (display-size (extremes.shown (i .measured .max)) (m .max))
-    (either small (eqb r (at "D")) (display-size (extremes.shown (i .measured .min)) (m .min))
+    (either small (eqb r (at "C")) (display-size (extremes.shown (i .measured .max)) (sound-parts (i .measured .max) (m .max) .0))
+    (either small (eqb r (at "D")) (display-size (extremes.shown (i .measured .min)) (sound-parts (i .measured .min) (m .min) .0))
     (chosen small (eqb r (at "I")) (λ t. omega (arith, from-to (i .outputs .code) 0 4095 (p .outputs .code) .1 .1))
     (λ t. chosen small (eqb r (at "J")) (λ u. omega (arith, status-is (i .outputs .mode) (i .alarms) (p .outputs .bits) .small))
     (λ u. omega (arith, display-small (setpointOf (i .alarms) (alarmOf r)) (p .alarms .setpoints (alarmOf r) (left-over r h (eqb-false r (at "I") t) (eqb-false r (at "J") u))))))))))

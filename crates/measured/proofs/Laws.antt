@@ -8,7 +8,7 @@ use Rattle.reading.specs.declared.Reading.the-variants.{Nothing}
 use Rattle.total.specs.Total.{inRange}
 use Rattle.total.specs.declared.Total.{Total}
 use Rattle.total.proofs.Laws as totals
-use Rattle.extremes.specs.Extremes.{shown}
+use Rattle.extremes.specs.Extremes as extreme
 use Rattle.extremes.specs.declared.Side.the-variants.{Max, Min}
 use Rattle.extremes.proofs.Laws as extremes
 use Rattle.config.specs.declared.Working.{Working}
@@ -24,8 +24,8 @@ module _ (w : Working) (m : Measured) where
   unfolding sound
   tested e =
       let reading = displayable (m .reading) in
-      let max = displayable (shown (m .max)) in
-      let min = displayable (shown (m .min)) in
+      let max = extreme.sound (m .max) in
+      let min = extreme.sound (m .min) in
       let d = both (reading && max && min) (inRange (w .totalizer) (m .total)) e in
       let c = both (reading && max) min (d .0) in
       let b = both reading max (c .0) in
@@ -44,8 +44,8 @@ unfolding displayable
 powered-up-sound w =
     record {
       reading = refl;
-      max = extremes.reset-shown Nothing refl;
-      min = extremes.reset-shown Nothing refl;
+      max = extremes.reset-sound Nothing refl;
+      min = extremes.reset-sound Nothing refl;
       total = totals.reset-kept (w .totalizer);
     }
 
@@ -55,8 +55,8 @@ module _ (w : Working) (m : Measured) (p : Sound w m) where
   sampled-sound r e =
       record {
         reading = e;
-        max = extremes.sample-shown Max (w .capture) (m .max) r e (p .max);
-        min = extremes.sample-shown Min (w .capture) (m .min) r e (p .min);
+        max = extremes.sampled-sound Max (w .capture) (m .max) r e (p .max);
+        min = extremes.sampled-sound Min (w .capture) (m .min) r e (p .min);
         total = totals.sampled-kept (w .totalizer) (m .total) r (p .total);
       }
 
@@ -72,7 +72,7 @@ module _ (w : Working) (m : Measured) (p : Sound w m) where
   batched-sound = with-total _ (totals.batched-kept (w .totalizer) (m .total) (m .reading) (p .total))
 
   pub reset-max-sound : Sound w (resetMax m)
-  reset-max-sound = record { reading = p .reading; max = extremes.reset-shown (m .reading) (p .reading); min = p .min; total = p .total }
+  reset-max-sound = record { reading = p .reading; max = extremes.reset-sound (m .reading) (p .reading); min = p .min; total = p .total }
 
   pub reset-min-sound : Sound w (resetMin m)
-  reset-min-sound = record { reading = p .reading; max = p .max; min = extremes.reset-shown (m .reading) (p .reading); total = p .total }
+  reset-min-sound = record { reading = p .reading; max = p .max; min = extremes.reset-sound (m .reading) (p .reading); total = p .total }

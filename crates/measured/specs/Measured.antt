@@ -51,11 +51,11 @@ resetMin m = withMin m (extremes.reset (m .reading))
 abbrev pub batched : Working → Measured → Measured
 batched w m = withTotal m (totals.batched (w .totalizer) (m .total) (m .reading))
 
--- ---- what counting and showing lean on: the reading, max and min can be displayed, and the total is in its range
+-- ---- what counting and showing lean on: the reading, max and min and what their runs remember can be displayed, and the total is in its range
 
 unfoldable pub sound : Working → Measured → Bool
 sound w m =
     displayable (m .reading)
-    && displayable (extremes.shown (m .max))
-    && displayable (extremes.shown (m .min))
+    && extremes.sound (m .max)
+    && extremes.sound (m .min)
     && totals.inRange (w .totalizer) (m .total)

@@ -100,7 +100,7 @@ pub fn is_sound(working: Working, m: Measured) -> bool
     let totalizer = working.totalizer;
     let reading = m.reading;
     reading::is_displayable(reading)
-        & reading::is_displayable(extremes::shown(m.max))
-        & reading::is_displayable(extremes::shown(m.min))
+        & extremes::is_sound(m.max)
+        & extremes::is_sound(m.min)
         & total::is_in_range(totalizer, m.total)
 }

@@ -4,15 +4,18 @@ use mathlib.Core.List.{List, [], _∷_, _++_, map}
 use Prim.Native.Nat.{ℕ}
 use Prim.Native.String.{String}
 use lib.ListN.{replicate}
+use lib.IntN.{pos}
 use Rattle.exact.specs.Exact.{cut}
 use Rattle.exact.specs.Sign.{minus}
 use Rattle.answer.specs.declared.Answer.the-variants.{Done, Replied, Refused, NotStarted}
 use Rattle.extremes.specs.Extremes as extremes
+use Rattle.extremes.specs.declared.Kept.the-variants.{Holds}
+use Rattle.extremes.specs.declared.Streak.the-variants.{Idle, Lasts}
 use Rattle.register.specs.Bytes.{ascii}
 use Rattle.text.specs.Numeral.{fewest, numeral}
 use Rattle.total.specs.Total as total
 use Rattle.meter.specs.Meter.{notStarted}
-use Rattle.show.specs.Show.{signed, named, counted, hex, powerLine, readingWord, quotientOf, totalWords, trimmed, bufferWords, extremeWords, measuredWords, setpointWords, stateWords, runWords, alarmWords, modeWords, outputWords, receivedWords, meterWords, eventLine}
+use Rattle.show.specs.Show.{signed, named, counted, hex, powerLine, readingWord, quotientOf, totalWords, trimmed, bufferWords, streakWords, extremeWords, measuredWords, setpointWords, stateWords, runWords, alarmWords, modeWords, outputWords, receivedWords, meterWords, eventLine}
 
 -- pieces as one text
 abbrev whole : List (List ℕ) → List ℕ
@@ -37,6 +40,9 @@ rows =
     ∷ row (numeral 10 ∷ []) "10"
     ∷ row (numeral 18446744073709551615 ∷ []) "18446744073709551615"
     ∷ row (signed (minus 199999)) "-199999"
+    ∷ row (extremeWords (extremes.extreme (Holds (pos 100)) (Lasts 3 (pos 105))) (extremes.extreme (Holds (minus 5)) (Lasts 12 (minus 7))))
+    " MAX=100 MIN=-5 MR=3:105 NR=12:-7"
+    ∷ row (extremeWords (extremes.extreme (Holds (pos 100)) Idle) (extremes.extreme (Holds (pos 0)) (Lasts 1 (minus 1)))) " MAX=100 MIN=0 MR=0 NR=1:-1"
     ∷ row (hex []) "-"
     ∷ row (hex (0 ∷ 171 ∷ 255 ∷ [])) "00abff"
     ∷ line (bufferWords (78 ∷ 238 ∷ 10 ∷ 238 ∷ 238 ∷ [])) " BUF=4eee0a"
@@ -48,5 +54,5 @@ rows =
     ∷ []
 
 pub cases : map (λ (r : Row). whole (r .pieces)) rows ≡ map (λ (r : Row). r .text) rows
-unfolding fewest numeral signed named counted hex readingWord quotientOf totalWords trimmed bufferWords extremeWords measuredWords setpointWords stateWords runWords alarmWords modeWords outputWords receivedWords meterWords eventLine total.quotient total.unitOf cut extremes.shown extremes.reset
+unfolding fewest numeral signed named counted hex readingWord quotientOf totalWords trimmed bufferWords streakWords extremeWords measuredWords setpointWords stateWords runWords alarmWords modeWords outputWords receivedWords meterWords eventLine total.quotient total.unitOf cut extremes.shown extremes.reset
 cases = refl

@@ -15,6 +15,8 @@ use Rattle.text.specs.Numeral.{numeral}
 use Rattle.reading.specs.declared.Reading.{Reading}
 use Rattle.reading.specs.declared.Reading.the-variants as reading
 use Rattle.extremes.specs.Extremes as extremes
+use Rattle.extremes.specs.declared.Streak.{Streak}
+use Rattle.extremes.specs.declared.Streak.the-variants.{Idle, Lasts}
 use Rattle.extremes.specs.declared.Extreme.{Extreme}
 use Rattle.alarm.specs.declared.Alarm.{Alarm}
 use Rattle.alarms.specs.Alarms.{alarmAt}
@@ -100,10 +102,15 @@ bufferWords s = (ascii " BUF=" ∷ hex (trimmed s)) ++ ((10 ∷ []) ∷ [])
 
 -- ---- the state of a meter
 
+-- a run: 0 where none goes on, else how many readings it has and the number that it remembers
+unfoldable pub streakWords : List ℕ → Streak → List (List ℕ)
+streakWords name Idle = counted name 0
+streakWords name (Lasts n v) = counted name n ++ named (ascii ":") v
+
 unfoldable pub extremeWords : Extreme → Extreme → List (List ℕ)
 extremeWords max min =
-    ((readingWord (ascii " MAX=") (extremes.shown max) ++ readingWord (ascii " MIN=") (extremes.shown min)) ++ counted (ascii " MR=") (max .run))
-    ++ counted (ascii " NR=") (min .run)
+    ((readingWord (ascii " MAX=") (extremes.shown max) ++ readingWord (ascii " MIN=") (extremes.shown min)) ++ streakWords (ascii " MR=") (max .run))
+    ++ streakWords (ascii " NR=") (min .run)
 
 unfoldable pub measuredWords : Totalizer → Measured → List (List ℕ)
 measuredWords s m = (readingWord (ascii " R=") (m .reading) ++ totalWords s (m .total)) ++ extremeWords (m .max) (m .min)

@@ -5,10 +5,11 @@ ghost use lib.IntN.{natAbs};
 ghost use mathlib.Core.List.{[], _∷_};
 ghost use lib.ListN.{length, take};
 ghost use Rattle.text.specs.Output.{waiting, puts};
-ghost use Rattle.show.specs.Show.{signed, named, counted, hexByte, hex, answerPieces, powerLine, readingWord, quotientOf, totalWords, trimmed, bufferWords, extremeWords, measuredWords, setpointWords, onDigit, stateWords, runWords, alarmWords, modeWords, outputWords, receivedWords, meterWords, isNotStarted, eventLine};
+ghost use Rattle.show.specs.Show.{signed, named, counted, hexByte, hex, answerPieces, powerLine, readingWord, quotientOf, totalWords, trimmed, bufferWords, streakWords, extremeWords, measuredWords, setpointWords, onDigit, stateWords, runWords, alarmWords, modeWords, outputWords, receivedWords, meterWords, isNotStarted, eventLine};
 use alarm::Alarm;
 use answer::Answer;
 use extremes::Extreme;
+use extremes::Streak;
 use measured::Measured;
 use meter::Meter;
 use outputs::Mode;
@@ -135,13 +136,28 @@ fn put_total(buf: &mut [u8], o: Out, s: Totalizer, t: Total) -> Out
     }
 }
 
+// The run of a max or a min: how many readings, and the number that it remembers, or 0 where none goes on.
+fn put_streak(buf: &mut [u8], o: Out, name: &[u8], run: Streak) -> Out
+    ensures { λ r. ⌜ waiting (r .at) (now (buf .exit)) ≡ puts (waiting (o .at) (now (buf .entry))) (streakWords (now (name .entry)) run) ⌝ }
+{
+    match run {
+        Streak::Idle => put_count(buf, o, name, 0),
+        Streak::Lasts(n, number) => {
+            let p = put_count(&mut *buf, o, name, n);
+            put_signed(&mut *buf, p, b":", number)
+        }
+    }
+}
+
 fn put_extremes(buf: &mut [u8], o: Out, max: Extreme, min: Extreme) -> Out
     ensures { λ r. ⌜ waiting (r .at) (now (buf .exit)) ≡ puts (waiting (o .at) (now (buf .entry))) (extremeWords max min) ⌝ }
 {
+    let max_run = max.run;
+    let min_run = min.run;
     let p = put_reading(&mut *buf, o, b" MAX=", extremes::shown(max));
     let q = put_reading(&mut *buf, p, b" MIN=", extremes::shown(min));
-    let r = put_count(&mut *buf, q, b" MR=", max.run);
-    put_count(&mut *buf, r, b" NR=", min.run)
+    let r = put_streak(&mut *buf, q, b" MR=", max_run);
+    put_streak(&mut *buf, r, b" NR=", min_run)
 }
 
 fn put_setpoints(buf: &mut [u8], o: Out, alarms: [Alarm; 4]) -> Out

@@ -1,8 +1,7 @@
 -- `extremes::reset` meets its contract: each arm of the match is a case of the definition. Assumes nothing.
-use borrow.Author.Needs.{needs}
-use mathlib.Core.Path.{ap, _∙_}
 use Rattle.exact.proofs.Z.{back32}
-use Rattle.extremes.specs.Extremes.{taken, reset}
+use Rattle.extremes.specs.Extremes.{reset}
+use borrow.Author.Needs.{needs}
 use Rattle.extremes.proofs.reset.Statement.{statement}
 use Rattle.extremes.proofs.reset.Tie as tie
 
@@ -14,6 +13,9 @@ enum-told-2 c = search needs
 
 enum-known-reading : tie.Need-enum-known-reading
 enum-known-reading c = search needs
+
+taken-requires : tie.Need-taken-requires
+taken-requires c κs = search needs
 
 enum-told-3 : tie.Need-enum-told-3
 enum-told-3 c = search needs
@@ -29,8 +31,8 @@ returns-2 c = rw (c .enum-told2 .given .1)
 returns-3 : tie.Need-returns-3
 unfolding reset
 returns-3 c =
-    let r = c .before in
-    ap taken (back32 (r .reading .given .0 .0) (c .known-told .given .0 .1)) ∙ rw (r .reading .given .1)
+    let r = c .before .before in
+    rw (c .taken .ensures, back32 (r .reading .given .0 .0) (c .before .known-told .given .0 .1), r .reading .given .1)
 
 returns-4 : tie.Need-returns-4
 unfolding reset
@@ -39,4 +41,13 @@ returns-4 c = rw (c .enum-told3 .given .1)
 pub reset-spec : {M : Type 1} → statement M
 reset-spec =
     tie.close
-    (tie.spec enum-told enum-told-2 enum-known-reading enum-told-3 returns returns-2 returns-3 returns-4)
+    (tie.spec
+    enum-told
+    enum-told-2
+    enum-known-reading
+    taken-requires
+    enum-told-3
+    returns
+    returns-2
+    returns-3
+    returns-4)

@@ -7,17 +7,11 @@ use Rattle.measured.proofs.is_sound.Tie as tie
 is-displayable-requires : tie.Need-is-displayable-requires
 is-displayable-requires c κs = search needs
 
-shown-requires : tie.Need-shown-requires
-shown-requires c κs = search needs
+is-sound-requires : tie.Need-is-sound-requires
+is-sound-requires c κs = search needs
 
-is-displayable-requires-2 : tie.Need-is-displayable-requires-2
-is-displayable-requires-2 c κs = search needs
-
-shown-requires-2 : tie.Need-shown-requires-2
-shown-requires-2 c κs = search needs
-
-is-displayable-requires-3 : tie.Need-is-displayable-requires-3
-is-displayable-requires-3 c κs = search needs
+is-sound-requires-2 : tie.Need-is-sound-requires-2
+is-sound-requires-2 c κs = search needs
 
 is-in-range-requires : tie.Need-is-in-range-requires
 is-in-range-requires c κs = search needs
@@ -29,11 +23,4 @@ returns c = cc
 pub is-sound-spec : {M : Type 1} → statement M
 is-sound-spec =
     tie.close
-    (tie.spec
-    is-displayable-requires
-    shown-requires
-    is-displayable-requires-2
-    shown-requires-2
-    is-displayable-requires-3
-    is-in-range-requires
-    returns)
+    (tie.spec is-displayable-requires is-sound-requires is-sound-requires-2 is-in-range-requires returns)

@@ -3,7 +3,7 @@ use mathlib.Core.Path.{ap}
 use mathlib.Core.List.{_++_}
 use Rattle.extremes.specs.Extremes.{shown}
 use Rattle.register.specs.Bytes.{ascii}
-use Rattle.show.specs.Show.{counted, readingWord, extremeWords}
+use Rattle.show.specs.Show.{readingWord, streakWords, extremeWords}
 use Rattle.text.proofs.Pieces.{next, alike}
 use borrow.Author.Needs.{needs}
 use Rattle.show.proofs.put_extremes.Statement.{statement}
@@ -27,17 +27,17 @@ shown-requires-2 c κs = search needs
 put-reading-requires-2 : tie.Need-put-reading-requires-2
 put-reading-requires-2 c κs = search needs
 
-slice-aggregate-put-count : tie.Need-slice-aggregate-put-count
-slice-aggregate-put-count c = search needs
+slice-aggregate-put-streak : tie.Need-slice-aggregate-put-streak
+slice-aggregate-put-streak c = search needs
 
-put-count-requires : tie.Need-put-count-requires
-put-count-requires c κs = search needs
+put-streak-requires : tie.Need-put-streak-requires
+put-streak-requires c κs = search needs
 
-slice-aggregate-put-count-2 : tie.Need-slice-aggregate-put-count-2
-slice-aggregate-put-count-2 c = search needs
+slice-aggregate-put-streak-2 : tie.Need-slice-aggregate-put-streak-2
+slice-aggregate-put-streak-2 c = search needs
 
-put-count-requires-2 : tie.Need-put-count-requires-2
-put-count-requires-2 c κs = search needs
+put-streak-requires-2 : tie.Need-put-streak-requires-2
+put-streak-requires-2 c κs = search needs
 
 same-length : tie.Need-same-length
 same-length c = search needs
@@ -46,10 +46,10 @@ returns : tie.Need-returns
 unfolding extremeWords
 returns c =
     let a = c .before .before .before .before .before .before .before .before .before .before .before .before .before .before .before .before .before .before .before .before .before .before .before .args in
-    (next _ _ _ (((readingWord (ascii " MAX=") (shown (a .max))) ++ (readingWord (ascii " MIN=") (shown (a .min)))) ++ (counted (ascii " MR=") (a .max .run))) (counted (ascii " NR=") (a .min .run)) (next _ _ _ ((readingWord (ascii " MAX=") (shown (a .max))) ++ (readingWord (ascii " MIN=") (shown (a .min)))) (counted (ascii " MR=") (a .max .run)) (next _ _ _ (readingWord (ascii " MAX=") (shown (a .max))) (readingWord (ascii " MIN=") (shown (a .min))) (alike _ _ _ _ (ap (readingWord (ascii " MAX=")) (c .before .before .before .before .before .before .before .before .before .before .before .before .before .before .before .before .before .before .before .shown .ensures)) (c .before .before .before .before .before .before .before .before .before .before .before .before .before .before .before .before .before .before .put-reading .ensures))
+    (next _ _ _ (((readingWord (ascii " MAX=") (shown (a .max))) ++ (readingWord (ascii " MIN=") (shown (a .min)))) ++ (streakWords (ascii " MR=") (a .max .run))) (streakWords (ascii " NR=") (a .min .run)) (next _ _ _ ((readingWord (ascii " MAX=") (shown (a .max))) ++ (readingWord (ascii " MIN=") (shown (a .min)))) (streakWords (ascii " MR=") (a .max .run)) (next _ _ _ (readingWord (ascii " MAX=") (shown (a .max))) (readingWord (ascii " MIN=") (shown (a .min))) (alike _ _ _ _ (ap (readingWord (ascii " MAX=")) (c .before .before .before .before .before .before .before .before .before .before .before .before .before .before .before .before .before .before .before .shown .ensures)) (c .before .before .before .before .before .before .before .before .before .before .before .before .before .before .before .before .before .before .put-reading .ensures))
     (alike _ _ _ _ (ap (readingWord (ascii " MIN=")) (c .before .before .before .before .before .before .before .before .before .before .before .before .before .shown2 .ensures)) (c .before .before .before .before .before .before .before .before .before .before .before .before .put-reading2 .ensures)))
-    (c .before .before .before .before .before .before .before .put-count .ensures))
-    (c .before .before .put-count2 .ensures))
+    (c .before .before .before .before .before .before .before .put-streak .ensures))
+    (c .before .before .put-streak2 .ensures))
 
 pub put-extremes-spec : {M : Type 1} → statement M
 put-extremes-spec =
@@ -61,9 +61,9 @@ put-extremes-spec =
     slice-aggregate-put-reading-2
     shown-requires-2
     put-reading-requires-2
-    slice-aggregate-put-count
-    put-count-requires
-    slice-aggregate-put-count-2
-    put-count-requires-2
+    slice-aggregate-put-streak
+    put-streak-requires
+    slice-aggregate-put-streak-2
+    put-streak-requires-2
     same-length
     returns)
