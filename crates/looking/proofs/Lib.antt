@@ -11,6 +11,7 @@ pub mod Unmoved
 pub mod Replay
 pub mod Asking
 pub mod Looking
+pub mod Captured
 pub mod Polls
 pub mod OffDelay
 pub mod Demand

@@ -5,5 +5,6 @@ pub mod Pinned
 pub mod Sent
 pub mod Inserted
 pub mod Looking
+pub mod Captured
 pub mod Polls
 pub mod Demand

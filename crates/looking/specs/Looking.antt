@@ -43,6 +43,7 @@ pub record Alike (c : Config) (i j : Instrument) : Type 0 where
   pub total : shown (c .working .totalizer) (i .measured .total) ≡ shown (c .working .totalizer) (j .measured .total)
   pub sum : i .measured .total .sum ≡ j .measured .total .sum
   pub range : i .measured .total .range ≡ j .measured .total .range
+  -- max and min, each with its run: how many readings it has, and the number that it remembers
   pub max : i .measured .max .kept ≡ j .measured .max .kept
   pub max-run : i .measured .max .run ≡ j .measured .max .run
   pub min : i .measured .min .kept ≡ j .measured .min .kept
