@@ -49,12 +49,22 @@ total-over-one-late | total | s/999_999_999;/1_000_000_000;/
 total-under-one-late | total | s/-199_999_999;/-200_000_000;/
 total-over-thaws | total | s/if self.bounds != Bounds::Within/if false/
 total-sum-passes-the-edge | total | s/self.bounds = Bounds::Over;/self.bounds = Bounds::Over; self.sum = new_sum;/
-capture-one-late | extremes | s/self.run >= samples_needed/self.run > samples_needed/
-capture-run-survives-over | extremes | s/_ => self.run = 0,/(Reading::Over, _) => {} _ => self.run = 0,/
-first-number-starts-a-run | extremes | s/(Reading::Number(number), None) => self.hold(number)/(Reading::Number(number), None) => { self.hold(number); self.run = 1; }/
+capture-one-late | extremes | s/run.readings >= samples_needed/run.readings > samples_needed/
+capture-run-survives-over | extremes | s/_ => self.run = None,/(Reading::Over, _) => {} _ => self.run = None,/
+first-number-starts-a-run | extremes | s/(Reading::Number(number), None) => self.hold(number)/(Reading::Number(number), None) => { self.hold(number); self.run = Some(Run { readings: 1, remembered: number }); }/
 equal-counts-as-beyond | extremes | s/number > held/number >= held/
-reset-max-keeps-run | extremes | /pub fn reset/,/^    }/ s/self.run = 0;//
+reset-max-keeps-run | extremes | /pub fn reset/,/^    }/ s/self.run = None;//
 reset-max-keeps-number-at-over | extremes | s/Reading::Nothing | Reading::Over | Reading::Under => None/_ => self.held/
+capture-takes-the-last-reading | extremes | s/self.hold(run.remembered)/self.hold(number)/
+capture-forgets-the-last-reading | extremes | s/self.hold(run.remembered)/self.hold(self.run.map_or(number, |before| before.remembered))/
+max-takes-the-greatest | extremes | s/Side::Max => so_far.min(number)/Side::Max => so_far.max(number)/
+min-takes-the-least | extremes | s/Side::Min => so_far.max(number)/Side::Min => so_far.min(number)/
+run-remembers-its-first-reading | extremes | s/self.to_remember(run.remembered, number)/run.remembered/
+run-number-survives-a-break | extremes | s/_ => self.run = None,/_ => self.run = self.run.map(|run| Run { readings: 0, ..run }),/; /pub fn run(/,/^    }/ s/self.run$/self.run.filter(|run| run.readings > 0)/
+run-number-survives-a-reset | extremes | /pub fn reset/,/^    }/ s/self.run = None;/self.run = self.run.map(|run| Run { readings: 0, ..run });/; /pub fn run(/,/^    }/ s/self.run$/self.run.filter(|run| run.readings > 0)/
+run-number-survives-a-capture | extremes | /fn hold/,/^    }/ s/self.run = None;/self.run = self.run.map(|run| Run { readings: 0, ..run });/; /pub fn run(/,/^    }/ s/self.run$/self.run.filter(|run| run.readings > 0)/
+run-printed-with-its-last-reading | lines | s/ShownRun(running.\(m..\).run())/ShownRun(running.\1.run().map(|run| Run { remembered: match running.reading { Reading::Number(number) => number, _ => run.remembered }, ..run }))/
+reset-of-min-ends-the-run-of-max | meter | s/Command::ResetMin => self.min.reset(self.reading),/Command::ResetMin => { self.min.reset(self.reading); self.max.reset(self.max.shown()) }/
 delay-not-doubled | config | s/2 \* i128::from(tenths)/i128::from(tenths)/
 delay-cut-short-at-the-end | config | s/std::cmp::max(1, 2 \* i128::from(tenths))/std::cmp::max(1, 2 * i128::from(tenths)).min(65_499)/
 node-100-taken | config | s/lies_in(self.node, 0, 99)/lies_in(self.node, 0, 100)/

@@ -10,12 +10,21 @@ pub enum Side {
     Min,
 }
 
-/// One extreme with its run. Only a number or nothing is ever held.
+/// A run that goes on: how many readings it has, and the one of them that it
+/// remembers, the least for max and the greatest for min (document 02, ticket 2).
+#[derive(Clone, Copy, PartialEq, Eq, Debug)]
+pub struct Run {
+    pub readings: i128,
+    pub remembered: i128,
+}
+
+/// One extreme with its run, if one goes on. Only a number or nothing is ever
+/// held.
 #[derive(Clone, Debug)]
 pub struct Extreme {
     side: Side,
     held: Option<i128>,
-    run: i128,
+    run: Option<Run>,
 }
 
 impl Extreme {
@@ -23,7 +32,7 @@ impl Extreme {
         Extreme {
             side,
             held: None,
-            run: 0,
+            run: None,
         }
     }
 
@@ -35,7 +44,7 @@ impl Extreme {
         }
     }
 
-    pub fn run(&self) -> i128 {
+    pub fn run(&self) -> Option<Run> {
         self.run
     }
 
@@ -46,34 +55,61 @@ impl Extreme {
         match (reading, self.held) {
             (Reading::Number(number), None) => self.hold(number),
             (Reading::Number(number), Some(held)) if self.lies_beyond(number, held) => {
-                self.count(number, capture_tenths)
+                self.lengthen(number, capture_tenths)
             }
-            _ => self.run = 0,
+            _ => self.run = None,
         }
     }
 
-    /// A reset starts over from what the meter reads now (The register strings,
-    /// paragraph 5, sentence 2).
+    /// A reset starts over from what the meter reads now, and the run's number
+    /// is forgotten with the run (The register strings, paragraph 5, sentence 2;
+    /// document 02, ticket 2).
     pub fn reset(&mut self, reading: Reading) {
-        self.run = 0;
+        self.run = None;
         self.held = match reading {
             Reading::Number(number) => Some(number),
             Reading::Nothing | Reading::Over | Reading::Under => None,
         };
     }
 
-    /// Lengthens the run by one sample; the one that makes it long enough is
-    /// the number to hold (Max and min, sentence 3).
-    fn count(&mut self, number: i128, capture_tenths: i32) {
-        self.run += 1;
-        if self.run >= samples_needed(capture_tenths) {
-            self.hold(number);
+    /// Lengthens the run by one sample. Once it is long enough, the number that
+    /// it remembers is the one to hold (Max and min, sentence 3; document 02,
+    /// ticket 2).
+    fn lengthen(&mut self, number: i128, capture_tenths: i32) {
+        let run = self.run_with(number);
+        if run.readings >= samples_needed(capture_tenths) {
+            self.hold(run.remembered);
+        } else {
+            self.run = Some(run);
+        }
+    }
+
+    /// The run with one more reading, which is its first where none goes on.
+    fn run_with(&self, number: i128) -> Run {
+        match self.run {
+            None => Run {
+                readings: 1,
+                remembered: number,
+            },
+            Some(run) => Run {
+                readings: run.readings + 1,
+                remembered: self.to_remember(run.remembered, number),
+            },
+        }
+    }
+
+    /// Which of two readings of a run is worth remembering (document 02,
+    /// ticket 2).
+    fn to_remember(&self, so_far: i128, number: i128) -> i128 {
+        match self.side {
+            Side::Max => so_far.min(number),
+            Side::Min => so_far.max(number),
         }
     }
 
     fn hold(&mut self, number: i128) {
         self.held = Some(number);
-        self.run = 0;
+        self.run = None;
     }
 
     fn lies_beyond(&self, number: i128, held: i128) -> bool {

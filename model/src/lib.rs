@@ -1,4 +1,5 @@
-//! A model of the panel meter, written from document 01 alone.
+//! A model of the panel meter, written from document 01 and from ticket 2 of
+//! document 02, which changes what max and min take.
 //!
 //! Every module carries out one section of document 01 in the plainest way:
 //! wide whole numbers, exact fractions and comparisons, and nothing kept that
@@ -6,7 +7,8 @@
 //!
 //! Comments name the sentence that a function carries out by its section and
 //! its number there, counted from 1 within the section or, in the section on
-//! register strings, within the paragraph.
+//! register strings, within the paragraph. Where no document is named, document
+//! 01 is meant.
 
 pub mod alarms;
 pub mod analog;

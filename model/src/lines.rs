@@ -6,6 +6,7 @@
 
 use crate::answer::Answer;
 use crate::config::{AlarmSettings, Configuration, Point};
+use crate::extremes::Run;
 use crate::meter::{Event, Meter, Running};
 use crate::reading::Reading;
 use crate::receiver::Receiver;
@@ -293,8 +294,8 @@ fn put_state(running: &Running, output: &mut Vec<u8>) {
             Shown::from(running.total()),
             Shown::from(running.max.shown()),
             Shown::from(running.min.shown()),
-            running.max.run(),
-            running.min.run(),
+            ShownRun(running.max.run()),
+            ShownRun(running.min.run()),
         ),
     );
     put_alarms(running, output);
@@ -404,6 +405,19 @@ impl std::fmt::Display for Shown {
             Shown::Over => write!(formatter, "OL"),
             Shown::Under => write!(formatter, "UL"),
             Shown::Nothing => write!(formatter, "--"),
+        }
+    }
+}
+
+/// A run of max or min as the state line prints it: how many readings it has
+/// and the one that it remembers, or 0 where none goes on.
+struct ShownRun(Option<Run>);
+
+impl std::fmt::Display for ShownRun {
+    fn fmt(&self, formatter: &mut std::fmt::Formatter) -> std::fmt::Result {
+        match self.0 {
+            None => write!(formatter, "0"),
+            Some(run) => write!(formatter, "{}:{}", run.readings, run.remembered),
         }
     }
 }

@@ -32,12 +32,30 @@ fn a_seed_gives_the_same_histories_again() {
     assert_ne!(differ(&words).stdout, differ(&other).stdout);
 }
 
-/// The output as a program would give it that answers 0 to unknown keys.
-fn spoilt(history: &[&str]) -> bool {
+/// Whether some line of the model's output for a history begins like this.
+fn reaches(history: &[&str], beginning: &[u8]) -> bool {
     let mut output = Vec::new();
     Replay::new().text(history.join("\n").as_bytes(), &mut output);
-    let differs = lines_of(&output).any(|line| line.starts_with(b"A=10 "));
-    differs
+    let reached = lines_of(&output).any(|line| line.starts_with(beginning));
+    reached
+}
+
+/// The history that the differ has printed reaches such a line, and without any
+/// one of its lines it does not.
+fn is_shortened_to(text: &str, beginning: &[u8]) {
+    let history: Vec<&str> = text
+        .lines()
+        .skip_while(|line| !line.starts_with("shortened to"))
+        .skip(1)
+        .take_while(|line| !line.starts_with("first differing"))
+        .collect();
+    assert!(reaches(&history, beginning), "{text}");
+    for index in 0..history.len() {
+        let mut fewer = history.clone();
+        fewer.remove(index);
+        let needed = !reaches(&fewer, beginning);
+        assert!(needed, "line {index} is not needed: {text}");
+    }
 }
 
 #[test]
@@ -47,19 +65,7 @@ fn a_difference_is_shortened_to_its_last_line() {
         "--seed", "4", "--events", "20000", "--", "sh", "-c", &command,
     ]);
     assert_eq!(output.status.code(), Some(1));
-    let text = text(&output);
-    let history: Vec<&str> = text
-        .lines()
-        .skip_while(|line| !line.starts_with("shortened to"))
-        .skip(1)
-        .take_while(|line| !line.starts_with("first differing"))
-        .collect();
-    assert!(spoilt(&history), "{text}");
-    for index in 0..history.len() {
-        let mut fewer = history.clone();
-        fewer.remove(index);
-        assert!(!spoilt(&fewer), "line {index} is not needed: {text}");
-    }
+    is_shortened_to(&text(&output), b"A=10 ");
 }
 
 #[test]
@@ -89,6 +95,15 @@ fn output_lost_by_a_dying_program_is_traced_to_its_cause() {
     let output = differ(&["--events", "20000", "--", "sh", "-c", &command]);
     assert_eq!(output.status.code(), Some(1));
     assert!(text(&output).contains("shortened to"), "{}", text(&output));
+}
+
+#[test]
+fn output_that_is_lost_from_the_first_line_on_is_traced_to_its_cause() {
+    // It writes at its end only, and dies of the first answer 8 before that.
+    let command = format!("{MODEL} | sed -n '/^A=8 /q; H; ${{x; s/^.//; p}}'");
+    let output = differ(&["--events", "3000", "--", "sh", "-c", &command]);
+    assert_eq!(output.status.code(), Some(1));
+    is_shortened_to(&text(&output), b"A=8 ");
 }
 
 #[test]

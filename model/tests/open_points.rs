@@ -5,6 +5,7 @@ mod common;
 use common::{on_node, read, straight, with_points, Hand, FILLING};
 use meter_model::answer::Answer::{self, *};
 use meter_model::config::Rule;
+use meter_model::extremes::Run;
 use meter_model::meter::{Event, Meter};
 use meter_model::reading::Reading::{self, Number};
 use meter_model::receiver::Receiver;
@@ -361,6 +362,13 @@ fn small_negative_total_has_no_minus() {
 
 // Max, min and alarms.
 
+fn run_of_one(remembered: i128) -> Option<Run> {
+    Some(Run {
+        readings: 1,
+        remembered,
+    })
+}
+
 #[test]
 fn resets_of_max_and_min() {
     let mut settings = straight();
@@ -376,8 +384,8 @@ fn resets_of_max_and_min() {
     assert_eq!(hand.state().max.shown(), Number(7));
     assert_eq!(hand.state().min.shown(), Number(15));
     hand.samples(&[9]);
-    assert_eq!(hand.state().max.run(), 1);
-    assert_eq!(hand.state().min.run(), 0);
+    assert_eq!(hand.state().max.run(), run_of_one(9));
+    assert_eq!(hand.state().min.run(), None);
     assert_eq!(hand.state().min.shown(), Number(9));
 }
 
@@ -389,10 +397,10 @@ fn over_ends_the_run_and_is_never_taken() {
     hand.samples(&[100_000]);
     assert_eq!(hand.state().max.shown(), Reading::Nothing);
     hand.samples(&[1]);
-    assert_eq!(hand.state().max.run(), 0);
+    assert_eq!(hand.state().max.run(), None);
     hand.samples(&[2, 100_000, 2]);
     assert_eq!(hand.state().max.shown(), Number(1));
-    assert_eq!(hand.state().max.run(), 1);
+    assert_eq!(hand.state().max.run(), run_of_one(2));
     hand.samples(&[-100_000]);
     hand.send(b"RC*");
     assert_eq!(hand.state().max.shown(), Reading::Nothing);

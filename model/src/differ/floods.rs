@@ -122,7 +122,8 @@ fn step(script: &mut Script, input: i64) {
     }
 }
 
-/// The greatest delay and capture time, run to their last sample.
+/// The greatest delay and capture time, run to their last sample. One of the
+/// readings, the first, a middle or the last one, lies nearer than the others.
 pub fn long_wait(random: Random) -> Script {
     let mut random = random;
     let mut settings = straight_settings(&mut random);
@@ -137,9 +138,13 @@ pub fn long_wait(random: Random) -> Script {
     settings.capture_time = random.pick(&[32_750, 32_749]);
     let mut script = Script::new(random, settings.clone());
     script.power_up(settings);
-    let (start, beyond) = script.random.pick(&[(99, 101), (101, 99)]);
+    let (start, nearest, farther) = script.random.pick(&[(99, 101, 102), (101, 99, 98)]);
     script.sample(start);
-    script.samples(beyond, 2 * 32_750 + 2);
+    let longest = 2 * 32_750;
+    let before = script.random.pick(&[0, longest / 2, longest - 1]);
+    script.samples(farther, before);
+    script.sample(nearest);
+    script.samples(farther, longest + 1 - before);
     strings::own_string(&mut script, b"TJ");
     script
 }

@@ -2,6 +2,7 @@
 //! seed and its number alone.
 
 use super::broken::{bad_line, break_one_rule};
+use super::captures;
 use super::floods;
 use super::places::any_place;
 use super::random::Random;
@@ -94,20 +95,21 @@ fn any_action(script: &mut Script, wanted: Wanted) {
     }
     match script
         .random
-        .weighted(&[14, 16, 8, 22, 9, 5, 5, 5, 5, 5, 6, 9, 1])
+        .weighted(&[14, 16, 8, 10, 22, 9, 5, 5, 5, 5, 5, 6, 9, 1])
     {
         0 => samples::loose_samples(script),
         1 => samples::excursion(script),
-        2 => samples::capture_run(script),
-        3 => strings::good_string(script),
-        4 => strings::near_miss(script),
-        5 => strings::strange_body(script),
-        6 => strings::strange_address(script),
-        7 => strings::for_another_node(script),
-        8 => strings::long_string(script),
-        9 => strings::noise(script),
-        10 => strings::interrupted_string(script),
-        11 => strings::any_key(script),
+        2 => captures::even_run(script),
+        3 => captures::uneven_run(script),
+        4 => strings::good_string(script),
+        5 => strings::near_miss(script),
+        6 => strings::strange_body(script),
+        7 => strings::strange_address(script),
+        8 => strings::for_another_node(script),
+        9 => strings::long_string(script),
+        10 => strings::noise(script),
+        11 => strings::interrupted_string(script),
+        12 => strings::any_key(script),
         _ if wanted.bad_lines => {
             let line = bad_line(&mut script.random, &script.settings);
             script.line(&line);

@@ -2,12 +2,14 @@
 //! another program, and compared line by line.
 
 pub mod broken;
+pub mod captures;
 pub mod compare;
 pub mod floods;
 pub mod histories;
 pub mod other;
 pub mod places;
 pub mod random;
+pub mod run_tally;
 pub mod samples;
 pub mod script;
 pub mod settings;

@@ -68,7 +68,7 @@ fn points_in_use(script: &Script) -> Vec<Point> {
 }
 
 /// A display at which something changes.
-fn interesting_display(script: &mut Script) -> i64 {
+pub fn interesting_display(script: &mut Script) -> i64 {
     let alarm = script.random.below(4);
     let setpoint = i64::from(script.setpoints[alarm]);
     let hysteresis = i64::from(script.settings.alarms[alarm].hysteresis);
@@ -146,7 +146,7 @@ pub fn excursion(script: &mut Script) {
 }
 
 /// A run of samples at one display, perhaps broken by one at the other.
-fn one_side(script: &mut Script, display: i64, tenths: i32, other: i64) {
+pub fn one_side(script: &mut Script, display: i64, tenths: i32, other: i64) {
     let input = input_near(script, display);
     let wanted = near_run_length(script, tenths);
     let broken_at = if script.random.one_in(4) {
@@ -167,33 +167,10 @@ fn one_side(script: &mut Script, display: i64, tenths: i32, other: i64) {
 }
 
 /// About as many samples as the delay asks for.
-fn near_run_length(script: &mut Script, tenths: i32) -> i64 {
+pub fn near_run_length(script: &mut Script, tenths: i32) -> i64 {
     let needed = (2 * i64::from(tenths)).max(1);
     if needed > LONGEST_RUN {
         return script.random.between(1, 5);
     }
     (needed + script.random.between(-1, 1)).max(1)
-}
-
-/// Resets max or min to the present reading and then goes beyond it for about
-/// the capture time.
-pub fn capture_run(script: &mut Script) {
-    let start = interesting_display(script);
-    let input = input_near(script, start);
-    script.sample(input);
-    let for_max = script.random.one_in(2);
-    if script.random.one_in(2) {
-        script.key(if for_max { 3 } else { 4 });
-    } else {
-        strings::own_string(script, if for_max { b"RC" } else { b"RD" });
-    }
-    let away = script
-        .random
-        .pick(&[1, 2, 5, i64::from(script.settings.rounding)]);
-    let beyond = if for_max { start + away } else { start - away };
-    let capture = script.settings.capture_time;
-    one_side(script, beyond, capture, start);
-    if script.random.one_in(2) {
-        one_side(script, 2 * beyond - start, capture, start);
-    }
 }

@@ -4,6 +4,7 @@
 use super::random::Random;
 use crate::config::Configuration;
 use crate::lines::configuration_line;
+use crate::reading::{reading_of, Reading};
 
 /// A history being written.
 pub struct Script {
@@ -51,8 +52,13 @@ impl Script {
     }
 
     pub fn sample(&mut self, input: i64) {
-        let held = input.clamp(i64::from(i32::MIN), i64::from(i32::MAX));
+        let held = within_32_bits(input);
         self.line(&format!("S {held}"));
+    }
+
+    /// What the settings that are aimed by make of an input.
+    pub fn reading(&self, input: i64) -> Reading {
+        reading_of(&self.settings, within_32_bits(input))
     }
 
     pub fn samples(&mut self, input: i64, count: i64) {
@@ -76,4 +82,9 @@ impl Script {
             self.byte(*byte);
         }
     }
+}
+
+/// The nearest input that a line can hold.
+fn within_32_bits(input: i64) -> i32 {
+    input.clamp(i64::from(i32::MIN), i64::from(i32::MAX)) as i32
 }

@@ -60,7 +60,7 @@ pub fn shorten(wanted: Wanted, met_in: u64, command: &[String]) -> io::Result<Op
         let first = met_in.saturating_sub(around);
         let groups = groups_of(&texts(wanted, first, met_in + around));
         if let Some(difference) = trials.difference(&groups)? {
-            let groups = trials.cut_behind(groups, &difference);
+            let groups = trials.cut_behind(groups, &difference)?;
             return trials.shortest(groups).map(Some);
         }
         around = 2 * around + 1;
@@ -143,13 +143,19 @@ impl Trials<'_> {
         }))
     }
 
-    /// Nothing behind the first differing line is needed.
-    fn cut_behind(&self, groups: Vec<Group>, difference: &Difference) -> Vec<Group> {
+    /// Nothing behind the first differing line is needed, unless that line was
+    /// lost by a program that died of a later one.
+    fn cut_behind(
+        &mut self,
+        groups: Vec<Group>,
+        difference: &Difference,
+    ) -> io::Result<Vec<Group>> {
         let mut left = Vec::new();
         for line in lines_in(&groups).into_iter().take(difference.line + 1) {
             push(&mut left, line, 1);
         }
-        left
+        let still_shown = self.difference(&left)?.is_some();
+        Ok(if still_shown { left } else { groups })
     }
 
     /// Removes ever smaller blocks until a whole round of single lines removes

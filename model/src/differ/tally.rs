@@ -1,5 +1,6 @@
 //! What a run has reached: events, answers, broken rules and states.
 
+use super::run_tally::RunTally;
 use crate::analog::Mode;
 use crate::answer::{Answer, ANSWER_NAMES};
 use crate::lines::{Outcome, Replay};
@@ -26,6 +27,9 @@ pub struct Tally {
     alarm_changes: u64,
     manual: u64,
     captured: u64,
+    max_runs: RunTally,
+    min_runs: RunTally,
+    both_runs: u64,
     last_alarms: [bool; 4],
     last_extremes: Option<(Reading, Reading)>,
 }
@@ -63,6 +67,8 @@ impl Tally {
         }
         self.last_alarms = [false; 4];
         self.last_extremes = None;
+        self.max_runs.power_up();
+        self.min_runs.power_up();
     }
 
     fn count_state(&mut self, event: Event, running: &Running) {
@@ -79,6 +85,10 @@ impl Tally {
         let changed = self.last_extremes.is_some_and(|last| last != extremes);
         self.captured += u64::from(changed && matches!(event, Event::Sample(_)));
         self.last_extremes = Some(extremes);
+        self.max_runs.count(event, running.reading, &running.max);
+        self.min_runs.count(event, running.reading, &running.min);
+        let both = running.max.run().is_some() && running.min.run().is_some();
+        self.both_runs += u64::from(both);
     }
 }
 
@@ -119,6 +129,13 @@ impl fmt::Display for Tally {
             out,
             "events that changed: an alarm's state {}; max or min, by a sample {}",
             self.alarm_changes, self.captured
+        )?;
+        writeln!(out, "runs of max: {}", self.max_runs)?;
+        writeln!(out, "runs of min: {}", self.min_runs)?;
+        writeln!(
+            out,
+            "events left with both runs going on: {}",
+            self.both_runs
         )
     }
 }
