@@ -2,7 +2,8 @@
 ghost use mathlib.Core.Path.{_≡_};
 ghost use Prim.Native.Nat.{_-_, _≤_, _<_, _^_};
 ghost use lib.IntN.{natAbs};
-ghost use lib.ListN.{length};
+ghost use lib.ListN.{length, replicate};
+ghost use Rattle.register.specs.Bytes.{byte};
 ghost use Rattle.field.specs.Field.{digit, digits, whole, fraction, sign, number, field, atRight, Showable};
 use reading::Reading;
 
@@ -90,19 +91,41 @@ fn put_number(buf: &mut [u8], places: usize, n: i32)
     put_sign(&mut buf[0..start], n);
 }
 
-// The 12 data bytes.
-pub fn field(places: usize, shown: Reading) -> [u8; 12]
-    requires { ⌜ Showable places shown ⌝ }
-    ensures { λ r. ⌜ r ≡ field places shown ⌝ }
+// Fills a part of the field with spaces.
+fn put_spaces(buf: &mut [u8])
+    ensures { λ _. ⌜ now (buf .exit) ≡ replicate (length (now (buf .entry))) (byte " ") ⌝ }
 {
+    let mut start = buf.len();
+    while 0 < start {
+        start -= 1;
+        buf[start] = b' ';
+    }
+}
+
+// A mark at the right end of the field.
+fn put_mark(buf: &mut [u8], mark: &[u8])
+    requires { ⌜ length (now mark) ≤ length (now buf) ⌝ }
+    ensures { λ _. ⌜ now (buf .exit) ≡ atRight (now (buf .entry)) (now (mark .entry)) ⌝ }
+{
+    let mut at = buf.len();
+    let mut i = mark.len();
+    while 0 < i {
+        at -= 1;
+        i -= 1;
+        buf[at] = mark[i];
+    }
+}
+
+// The 12 data bytes, in their place: spaces, and a number or a mark over the right end of them, so that nothing shows of what stood there before.
+pub fn fill(part: &mut [u8], places: usize, shown: Reading)
+    requires { ⌜ Showable places shown × (length (now part) ≡ 12) ⌝ }
+    ensures { λ _. ⌜ now (part .exit) ≡ field places shown ⌝ }
+{
+    put_spaces(part);
     match shown {
-        Reading::Nothing => *b"        ----",
-        Reading::Under => *b"        ULUL",
-        Reading::Over => *b"        OLOL",
-        Reading::Number(n) => {
-            let mut data = [b' '; 12];
-            put_number(&mut data, places, n);
-            data
-        }
+        Reading::Nothing => put_mark(part, b"----"),
+        Reading::Under => put_mark(part, b"ULUL"),
+        Reading::Over => put_mark(part, b"OLOL"),
+        Reading::Number(n) => put_number(part, places, n),
     }
 }

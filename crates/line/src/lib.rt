@@ -32,13 +32,12 @@ pub fn put_text(buf: &mut [u8], text: &[u8])
     }
 }
 
-// The data bytes. They are built aside and copied.
+// The data bytes, built in their place.
 fn put_field(buf: &mut [u8], places: usize, shown: Reading)
     requires { ⌜ Showable places shown × (12 ≤ length (now buf)) ⌝ }
     ensures { λ _. ⌜ now (buf .exit) ≡ over (now (buf .entry)) (field places shown) ⌝ }
 {
-    let data = field::field(places, shown);
-    put_text(buf, &data);
+    field::fill(&mut buf[0..12], places, shown);
 }
 
 // Data, CR, LF.

@@ -36,7 +36,7 @@ part-put-data-end c = search needs
 put-data-requires-2 : tie.Need-put-data-requires-2
 put-data-requires-2 c κs =
     let h = c .before .before .before in
-    (h .before .before .before .before .pre .0 .fits, rw (tail-length (h .put-head .last .0) 6) (omega (arith, long (h .before .before))))
+    (h .before .before .before .before .pre .0 .fits, simp tail-length (omega (arith, long (h .before .before))))
 
 same-length : tie.Need-same-length
 same-length c = search needs
