@@ -86,8 +86,10 @@ fn put_number(buf: &mut [u8], places: usize, n: i32)
 {
     let size = size(n);
     let power = exact::power_of_ten(places);
+    // beside the remainder, so that one division gives both
+    let whole = size / power;
     let point = put_fraction(buf, places, size % power);
-    let start = put_whole(&mut buf[0..point], size / power);
+    let start = put_whole(&mut buf[0..point], whole);
     put_sign(&mut buf[0..start], n);
 }
 

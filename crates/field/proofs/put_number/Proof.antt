@@ -27,6 +27,9 @@ sized c = c .size .ensures ∙ ap natAbs (toZ-ofZ (c .before .before .fits .n))
 power : (c : tie.After-power-of-ten) → 0 < c .power-of-ten .result
 power c = rw (c .power-of-ten .ensures) (power-some (c .before .before .before .args .places))
 
+div-whole : tie.Need-div-whole
+div-whole c = power c
+
 rem-put-fraction : tie.Need-rem-put-fraction
 rem-put-fraction c = power (c .before)
 
@@ -49,9 +52,6 @@ part-put-whole-start c = search needs
 
 part-put-whole-end : tie.Need-part-put-whole-end
 part-put-whole-end c = search needs
-
-div-put-whole : tie.Need-div-put-whole
-div-put-whole c = power (c .before .before .before .before .before)
 
 put-whole-requires : tie.Need-put-whole-requires
 put-whole-requires c κs =
@@ -121,12 +121,12 @@ put-number-spec =
     (tie.spec
     size-requires
     power-of-ten-requires
+    div-whole
     rem-put-fraction
     put-fraction-requires
     sub-put-whole
     part-put-whole-start
     part-put-whole-end
-    div-put-whole
     put-whole-requires
     sub-put-sign
     part-put-sign-start
