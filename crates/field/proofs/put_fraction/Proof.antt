@@ -1,3 +1,4 @@
+-- `field::put_fraction` meets its contract: with no places nothing is put, and else the point stands before a tail of digits. Assumes nothing.
 use borrow.Author.Needs.{needs}
 use native.Mathlib.Omega.{arith}
 use mathlib.Core.Path.{sym}
@@ -9,38 +10,30 @@ use Rattle.field.proofs.Right.{fraction-length, point-put, right-nil}
 use Rattle.field.proofs.put_fraction.Statement.{statement}
 use Rattle.field.proofs.put_fraction.Tie as tie
 
--- src/lib.rt:53:9
 returns : tie.Need-returns
 unfolding fraction
 returns c = rw (c .if1 .taken) (omega arith, sym (right-nil (c .before .before .args .buf .now)))
 
--- src/lib.rt:55:17
 sub-start : tie.Need-sub-start
 sub-start c = omega (arith, fraction-length (c .before .before .args .places) (c .before .before .args .n) (omega arith))
 
--- src/lib.rt:56:16
 sub-put-digits : tie.Need-sub-put-digits
 sub-put-digits c = search needs
 
--- src/lib.rt:56:16
 part-put-digits-start : tie.Need-part-put-digits-start
 part-put-digits-start c = search needs
 
--- src/lib.rt:56:16
 part-put-digits-end : tie.Need-part-put-digits-end
 part-put-digits-end c = search needs
 
--- src/lib.rt:56:5
 put-digits-requires : tie.Need-put-digits-requires
 put-digits-requires c κs = search needs
 
--- src/lib.rt:57:17
 sub-point : tie.Need-sub-point
 sub-point c =
     let s = c .before .before .before .before .before .before in
     omega (arith, fraction-length (s .args .places) (s .args .n) (omega arith))
 
--- src/lib.rt:58:5
 slice-write-buf : tie.Need-slice-write-buf
 slice-write-buf c =
     let s = c .before .before .before .before .before .before in
@@ -49,11 +42,9 @@ slice-write-buf c =
     let i = length d - s .args .places in
     omega (arith, same-len-mid i (length d - i) d (c .before .before .put-digits .last .0) (c .before .before .put-digits .kept .0))
 
--- src/lib.rt:47:1
 same-length : tie.Need-same-length
 same-length c = search needs
 
--- src/lib.rt:47:1
 returns-2 : tie.Need-returns-2
 returns-2 c =
     let s = c .before .before .before .before .before .before in
