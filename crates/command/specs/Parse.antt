@@ -5,9 +5,9 @@ use mathlib.Core.List.{List, [], _∷_}
 use lib.Dec.{leb, eqb}
 use Rattle.register.specs.Bytes.{byte}
 use Rattle.register.specs.Registers.{entry, count, index, at}
-use Rattle.command.specs.Number.{isDigit, number}
-use Rattle.command.specs.declared.Number.{Number}
-use Rattle.command.specs.declared.Number.the-variants.{Is, NoNumber}
+use Rattle.number.specs.Number.{isDigit, number}
+use Rattle.number.specs.declared.Number.{Number}
+use Rattle.number.specs.declared.Number.the-variants.{Is, NoNumber}
 use Rattle.command.specs.declared.Asked.{Asked}
 use Rattle.command.specs.declared.Asked.the-variants.{Read, Print, Reset, Write, Status, BadForm}
 use Rattle.command.specs.declared.Parsed.{Parsed}

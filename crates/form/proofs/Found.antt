@@ -11,22 +11,22 @@ use lib.IntN.{ℤ, pos, negℤ}
 use lib.ListN.{length, take, drop, take-append-drop, length-drop}
 use Rattle.register.specs.Bytes.{byte}
 use Rattle.register.specs.Registers.{noRegister, entry, count, index, at}
-use Rattle.command.specs.Number.{isDigit, isPoint, figures, keep, digits, filled, onward, value, last, amount, number, plus, minus}
+use Rattle.number.specs.Number.{isDigit, isPoint, figures, keep, digits, filled, onward, value, last, amount, number, plus, minus}
 use Rattle.command.specs.Parse.{sole, reading, resetting, printing, status, writeTo, dataOf, writing, body, firstDigit, secondDigit, parse}
 use Rattle.form.specs.Grammar as form
 use Rattle.form.specs.Grammar.{Digit, BeginsN, BeginsDigit, Figures, LastFive, Worth, Counts, Numeral, Letter, Body, For}
 use Rattle.register.specs.declared.Register.{Register}
-use Rattle.command.specs.declared.Amount.{Amount}
-use Rattle.command.specs.declared.Amount.the-variants.{Of, NoAmount}
-use Rattle.command.specs.declared.Number.{Number}
-use Rattle.command.specs.declared.Number.the-variants.{Is, NoNumber}
+use Rattle.number.specs.declared.Amount.{Amount}
+use Rattle.number.specs.declared.Amount.the-variants.{Of, NoAmount}
+use Rattle.number.specs.declared.Number.{Number}
+use Rattle.number.specs.declared.Number.the-variants.{Is, NoNumber}
 use Rattle.command.specs.declared.Asked.{Asked}
 use Rattle.command.specs.declared.Asked.the-variants.{Read, Reset, Status, BadForm}
 use Rattle.command.specs.declared.Parsed.{Parsed}
 use Rattle.command.specs.declared.Parsed.the-variants.{NoNode, To}
 use Rattle.exact.proofs.Z.{never, both}
 use Rattle.register.proofs.Table.{index-of-letter}
-use Rattle.command.proofs.Digits.{last-all}
+use Rattle.number.proofs.Digits.{last-all}
 use Rattle.form.proofs.Said.{digit-test, digit-of, letter-j}
 
 -- ── a V number ──

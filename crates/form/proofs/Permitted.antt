@@ -15,7 +15,7 @@ use Rattle.register.proofs.Ranges.{range}
 use Rattle.register.proofs.Table.{ruled}
 use Rattle.receiver.specs.Receiver.{limit, over}
 use Rattle.command.specs.Parse.{body, parse}
-use Rattle.command.proofs.Digits.{number-size}
+use Rattle.number.proofs.Digits.{number-size}
 use Rattle.command.specs.declared.Asked.{Asked}
 use Rattle.command.specs.declared.Asked.the-variants.{Read, Print, Reset, Write, Status, BadForm}
 use Rattle.command.specs.declared.Parsed.{Parsed}

@@ -9,18 +9,18 @@ use borrow.Author.Tests.{ne-eqb, le-leb}
 use lib.IntN.{ℤ}
 use Rattle.register.specs.Bytes.{byte}
 use Rattle.register.specs.Registers.{entry, index, at}
-use Rattle.command.specs.Number.{isDigit, figures, digits, filled, value, last, amount, number, plus}
+use Rattle.number.specs.Number.{isDigit, figures, digits, filled, value, last, amount, number, plus}
 use Rattle.command.specs.Parse.{sole, reading, resetting, printing, status, dataOf, writing, body, firstDigit, secondDigit, parse}
 use Rattle.form.specs.Grammar as form
 use Rattle.form.specs.Grammar.{Digit, BeginsN, BeginsDigit, Address, Figures, LastFive, Worth, Counts, Numeral, Letter, Body}
-use Rattle.command.specs.declared.Amount.the-variants.{Of}
-use Rattle.command.specs.declared.Number.the-variants.{Is}
+use Rattle.number.specs.declared.Amount.the-variants.{Of}
+use Rattle.number.specs.declared.Number.the-variants.{Is}
 use Rattle.command.specs.declared.Asked.{Asked}
 use Rattle.command.specs.declared.Asked.the-variants.{Read, Reset, Write, Status}
 use Rattle.command.specs.declared.Parsed.the-variants.{To}
 use Rattle.register.proofs.Ranges.{in-range, range}
 use Rattle.register.proofs.Table.{ruled, letter-index}
-use Rattle.command.proofs.Digits.{value-more, last-end, last-all}
+use Rattle.number.proofs.Digits.{value-more, last-end, last-all}
 
 -- ── digits ──
 

@@ -3,7 +3,7 @@ use native.Mathlib.Omega.{arith}
 use mathlib.Core.Path.{_≡_, sym, _∙_}
 use mathlib.Core.Bool.{true, false}
 use Rattle.command.specs.Parse.{writing}
-use Rattle.command.proofs.Lists.{none, split}
+use Rattle.number.proofs.Lists.{none, split}
 use borrow.Author.Needs.{needs}
 use Rattle.command.proofs.write.Statement.{statement}
 use Rattle.command.proofs.write.Tie as tie

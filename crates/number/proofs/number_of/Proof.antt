@@ -1,4 +1,4 @@
--- `command::number_of` meets its contract: a leading minus is the first byte, and the amount stands behind it. Assumes nothing.
+-- `number::number_of` meets its contract: a leading minus is the first byte, and the amount stands behind it. Assumes nothing.
 use native.Mathlib.Omega.{arith}
 use mathlib.Core.Path.{_≡_, sym, ap, _∙_}
 use mathlib.Core.Bool.{true}
@@ -8,13 +8,13 @@ use mir.Syntax.{w32}
 use mir.Facts.{toZ-ofZ}
 use borrow.Author.Tests.{eq-eqb, ne-eqb}
 use Rattle.register.specs.Bytes.{byte}
-use Rattle.command.specs.Number.{amount, number}
-use Rattle.command.specs.declared.Number.the-variants.{Is}
-use Rattle.command.proofs.Lists.{none, behind, split}
-use Rattle.command.proofs.Digits.{small}
+use Rattle.number.specs.Number.{amount, number}
+use Rattle.number.specs.declared.Number.the-variants.{Is}
+use Rattle.number.proofs.Lists.{none, behind, split}
+use Rattle.number.proofs.Digits.{small}
 use borrow.Author.Needs.{needs}
-use Rattle.command.proofs.number_of.Statement.{statement}
-use Rattle.command.proofs.number_of.Tie as tie
+use Rattle.number.proofs.number_of.Statement.{statement}
+use Rattle.number.proofs.number_of.Tie as tie
 
 returns : tie.Need-returns
 unfolding number

@@ -11,11 +11,11 @@ use lib.ListN.{length, take, drop, take-append-drop, length-append, length-drop}
 use lib.Seq.{drop-at}
 use lib.IntN.{ℤ, pos, negℤ, natAbs}
 use Rattle.register.specs.Bytes.{byte}
-use Rattle.command.specs.Number.{isDigit, figures, keep, digits, filled, onward, value, last, amount, number, plus, minus}
+use Rattle.number.specs.Number.{isDigit, figures, keep, digits, filled, onward, value, last, amount, number, plus, minus}
 use Rattle.register.proofs.Ranges.{range}
-use Rattle.command.specs.declared.Amount.{Amount}
-use Rattle.command.specs.declared.Amount.the-variants.{Of, NoAmount}
-use Rattle.command.specs.declared.Number.the-variants.{Is}
+use Rattle.number.specs.declared.Amount.{Amount}
+use Rattle.number.specs.declared.Amount.the-variants.{Of, NoAmount}
+use Rattle.number.specs.declared.Number.the-variants.{Is}
 
 -- digits: each at most 9
 pub data Tens : List ℕ → Type 0 where

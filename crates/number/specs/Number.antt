@@ -7,10 +7,10 @@ use lib.Dec.{eqb}
 use lib.IntN.{pos, negℤ}
 use lib.ListN.{length, drop}
 use Rattle.register.specs.Bytes.{byte, within}
-use Rattle.command.specs.declared.Amount.{Amount}
-use Rattle.command.specs.declared.Amount.the-variants.{Of, NoAmount}
-use Rattle.command.specs.declared.Number.{Number}
-use Rattle.command.specs.declared.Number.the-variants.{Is, NoNumber}
+use Rattle.number.specs.declared.Amount.{Amount}
+use Rattle.number.specs.declared.Amount.the-variants.{Of, NoAmount}
+use Rattle.number.specs.declared.Number.{Number}
+use Rattle.number.specs.declared.Number.the-variants.{Is, NoNumber}
 
 abbrev pub isDigit : ℕ → Bool
 isDigit b = within (byte "0") (byte "9") b
