@@ -1,16 +1,16 @@
 -- What the definitions of the analog code mean. Assumes nothing.
 use mathlib.Core.Path.{_≡_, refl, ap, _∙_}
-use mathlib.Core.Bool.{Bool, true, false, cond}
+use mathlib.Core.Bool.{true, false}
 use Prim.Native.Nat.{zero, suc, _*_, _<_}
 use native.Mathlib.Nat.{zero-div, mul-div-cancel}
 use native.Mathlib.Omega.{arith}
 use lib.IntN.{ℤ, pos, negsuc, negℤ, natAbs, _-ℤ_, _*ℤ_, +ℤ-invr, negℤ-negℤ}
-use lib.Signed.{leZ, ltZ}
 use Rattle.exact.specs.Sign.{isNeg, eqZ, within}
 use Rattle.exact.specs.Exact.{floor}
 use Rattle.exact.specs.Meaning.{IsFloor}
-use Rattle.exact.proofs.Z.{never, both, not-lt, le-not-lt, differ-some}
+use Rattle.exact.proofs.Z.{never, differ-some}
 use Rattle.exact.proofs.Meaning.{floor-is, floor-only}
+use Rattle.exact.proofs.Held.{held-is, held-same as held-within}
 use Rattle.reading.specs.declared.Reading.{Reading}
 use Rattle.reading.specs.declared.Reading.the-variants.{Nothing, Under, Number, Over}
 use Rattle.analog.specs.Analog.{floorBy, held, codeOf}
@@ -49,19 +49,12 @@ floor-turned n (negsuc d) h = refl
 -- a held number lies in 0 to 4,095
 pub held-range : (z : ℤ) → within (pos 0) (pos 4095) (held z) ≡ true
 unfolding held
-held-range z = go (ltZ z (pos 0)) (ltZ (pos 4095) z) refl refl
-  where
-    go : (b c : Bool) → ltZ z (pos 0) ≡ b → ltZ (pos 4095) z ≡ c → within (pos 0) (pos 4095) (cond b (pos 0) (cond c (pos 4095) z)) ≡ true
-    go true c e f = refl
-    go false true e f = refl
-    go false false e f = rw (not-lt z (pos 0) e, not-lt (pos 4095) z f)
+held-range z = held-is (pos 0) (pos 4095) z refl .inside
 
 -- a number that lies there is held as it is
 pub held-same : (z : ℤ) → within (pos 0) (pos 4095) z ≡ true → held z ≡ z
 unfolding held
-held-same z e =
-    let p = both (leZ (pos 0) z) (leZ z (pos 4095)) e in
-    rw (le-not-lt z (pos 0) (p .0), le-not-lt (pos 4095) z (p .1))
+held-same z e = held-within (pos 0) (pos 4095) z e
 
 -- ---- the code
 

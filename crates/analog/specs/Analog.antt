@@ -1,8 +1,7 @@
 -- The analog code, as document 01 has it.
-use mathlib.Core.Bool.{cond}
 use Prim.Native.Nat.{suc}
 use lib.IntN.{ℤ, pos, negsuc, negℤ, _-ℤ_, _*ℤ_}
-use lib.Signed.{ltZ}
+use Rattle.exact.specs.Sign.{heldTo}
 use Rattle.exact.specs.Exact.{floor}
 use Rattle.reading.specs.declared.Reading.{Reading}
 use Rattle.reading.specs.declared.Reading.the-variants.{Nothing, Under, Number, Over}
@@ -14,7 +13,7 @@ floorBy n (negsuc d) = floor (negℤ n) (suc d)
 
 -- held to 0 to 4,095
 unfoldable pub held : ℤ → ℤ
-held z = cond (ltZ z (pos 0)) (pos 0) (cond (ltZ (pos 4095) z) (pos 4095) z)
+held z = heldTo (pos 0) (pos 4095) z
 
 -- floor of 4,095 × (reading - low) / (high - low), held; Over 4,095 and Under 0, also where high is below low; 0 before any sample
 unfoldable pub codeOf : ℤ → ℤ → Reading → ℤ

@@ -311,6 +311,13 @@ pub lt-le-le : (a b c : ℤ) → ltZ a b ≡ true → leZ b c ≡ true → leZ c
 lt-le-le a b c p q r =
     clashℤ {a = a} {b = c} (<ℤ-≤ℤ-trans {a = a} {b = b} (ltZ-yes (holds p)) (leZ-yes (holds q))) (leZ-yes (holds r))
 
+pub le-trans : (a b c : ℤ) → leZ a b ≡ true → leZ b c ≡ true → leZ a c ≡ true
+le-trans a b c p q = go (leZ a c) refl
+  where
+    go : (t : Bool) → leZ a c ≡ t → leZ a c ≡ true
+    go true e = e
+    go false e = absurd (lt-le-le c a b (not-le a c e) p q)
+
 -- a minus turns an order round
 pub lt-neg : (a b : ℤ) → ltZ (negℤ a) (negℤ b) ≡ ltZ b a
 lt-neg (pos zero) (pos zero) = refl

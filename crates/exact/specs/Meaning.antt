@@ -1,10 +1,10 @@
--- What the definitions are to mean, said without computing anything. In each the distance of r from n / d is taken d times over,
--- so that it is a whole number: |d × r - n|.
+-- What the definitions are to mean, said without computing anything. In those of a fraction the distance of r from n / d is taken d
+-- times over, so that it is a whole number: |d × r - n|.
 use mathlib.Core.Path.{_≡_}
-use mathlib.Core.Bool.{false}
+use mathlib.Core.Bool.{true, false}
 use Prim.Native.Nat.{ℕ, _*_, _≤_, _<_}
 use lib.IntN.{ℤ, pos, natAbs, _-ℤ_, _*ℤ_}
-use Rattle.exact.specs.Sign.{isNeg}
+use Rattle.exact.specs.Sign.{isNeg, within}
 
 -- r is the nearest whole number to n / d: at most half a unit away, and at a half away from zero
 pub record IsNearest (n : ℤ) (d : ℕ) (r : ℤ) : Type 0 where
@@ -27,3 +27,8 @@ pub record IsCut (n : ℤ) (d : ℕ) (r : ℤ) : Type 0 where
 pub record IsFloor (n : ℤ) (d : ℕ) (r : ℤ) : Type 0 where
   pub below : isNeg (n -ℤ pos d *ℤ r) ≡ false
   pub near : natAbs (n -ℤ pos d *ℤ r) < d
+
+-- h is z held to lo to hi: it lies there, and no number that lies there is nearer to z
+pub record IsHeld (lo hi z h : ℤ) : Type 0 where
+  pub inside : within lo hi h ≡ true
+  pub nearest : (y : ℤ) → within lo hi y ≡ true → natAbs (h -ℤ z) ≤ natAbs (y -ℤ z)

@@ -1,9 +1,9 @@
--- Tests on signed numbers that compute, and how the numbers below zero are written.
-use mathlib.Core.Bool.{Bool, true, false, _&&_}
+-- Tests on signed numbers that compute, how the numbers below zero are written, and a number held to limits.
+use mathlib.Core.Bool.{Bool, true, false, cond, _&&_}
 use Prim.Native.Nat.{ℕ}
 use lib.Dec.{eqb}
 use lib.IntN.{ℤ, pos, negsuc, negℤ}
-use lib.Signed.{leZ}
+use lib.Signed.{ltZ, leZ}
 
 -- z is below zero; `negsuc n` is -(n + 1)
 abbrev pub isNeg : ℤ → Bool
@@ -24,3 +24,7 @@ minus n = negℤ (pos n)
 -- lo ≤ z ≤ hi
 abbrev pub within : ℤ → ℤ → ℤ → Bool
 within lo hi z = leZ lo z && leZ z hi
+
+-- z held to lo to hi: lo where it lies below, hi where it lies above, else z itself
+abbrev pub heldTo : ℤ → ℤ → ℤ → ℤ
+heldTo lo hi z = cond (ltZ z lo) lo (cond (ltZ hi z) hi z)
