@@ -1,7 +1,7 @@
 -- Document 01's number of each answer, and the number that it carries.
 use Prim.Native.Nat.{ℕ}
 use Rattle.answer.specs.declared.Answer.{Answer}
-use Rattle.answer.specs.declared.Answer.the-variants.{Done, Stored, Replied, OtherNode, BadForm, Dropped, TooLong, OutOfRange, InAutomatic, NoRoom, UnknownKey, Refused, NotStarted}
+use Rattle.answer.specs.declared.Answer.the-variants.{Done, Stored, Replied, OtherNode, BadForm, Dropped, TooLong, InAutomatic, NoRoom, UnknownKey, Refused, NotStarted}
 
 abbrev pub number : Answer → ℕ
 number Done = 0
@@ -11,7 +11,6 @@ number OtherNode = 3
 number BadForm = 4
 number Dropped = 5
 number TooLong = 6
-number OutOfRange = 7
 number InAutomatic = 8
 number NoRoom = 9
 number UnknownKey = 10
@@ -27,7 +26,6 @@ value OtherNode = 0
 value BadForm = 0
 value Dropped = 0
 value TooLong = 0
-value OutOfRange = 0
 value InAutomatic = 0
 value NoRoom = 0
 value UnknownKey = 0

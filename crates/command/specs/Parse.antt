@@ -4,10 +4,12 @@ use mathlib.Core.Bool.{cond}
 use mathlib.Core.List.{List, [], _∷_}
 use lib.Dec.{leb, eqb}
 use Rattle.register.specs.Bytes.{byte}
-use Rattle.register.specs.Registers.{entry, count, index, at}
+use Rattle.register.specs.Registers.{entry, count, index}
+use Rattle.register.specs.declared.Writes.{Writes}
+use Rattle.register.specs.declared.Writes.the-variants.{Nothing, Number as Limited, Byte}
 use Rattle.number.specs.Number.{isDigit, number}
 use Rattle.number.specs.declared.Number.{Number}
-use Rattle.number.specs.declared.Number.the-variants.{Is, NoNumber}
+use Rattle.number.specs.declared.Number.the-variants.{Is, Held, NoNumber}
 use Rattle.command.specs.declared.Asked.{Asked}
 use Rattle.command.specs.declared.Asked.the-variants.{Read, Print, Reset, Write, Status, BadForm}
 use Rattle.command.specs.declared.Parsed.{Parsed}
@@ -40,18 +42,22 @@ status [] = BadForm
 status (b ∷ []) = cond (leb b 127) (Status b) BadForm
 status (b ∷ c ∷ s) = BadForm
 
+-- a number is written as it is, or as the limit that it was held to
 abbrev pub writeTo : ℕ → Number → Asked
 writeTo r (Is z) = Write r z
+writeTo r (Held z) = Write r z
 writeTo r NoNumber = BadForm
 
--- the data of V: a byte for J, else a number
-unfoldable pub dataOf : ℕ → List ℕ → Asked
-dataOf r s = cond (eqb r (at "J")) (status s) (writeTo r (number s))
+-- the data of V, by what the list says of the register: a number, held to the register's limits, or a byte
+unfoldable pub dataOf : ℕ → Writes → List ℕ → Asked
+dataOf r Nothing s = BadForm
+dataOf r (Limited l) s = writeTo r (number l s)
+dataOf r Byte s = status s
 
 -- V takes a register and its data
 unfoldable pub writing : List ℕ → Asked
 writing [] = BadForm
-writing (l ∷ s) = cond (entry (index l) .written) (dataOf (index l) s) BadForm
+writing (l ∷ s) = dataOf (index l) (entry (index l) .written) s
 
 unfoldable pub body : List ℕ → Asked
 body [] = BadForm

@@ -1,10 +1,13 @@
 // The register strings: what a string asks, and of which node.
-// Which registers there are and which command takes which is said by crate `register` alone.
+// Which registers there are, which command takes which and within which limits is said by crate `register` alone.
 use number::Number;
+use register::Limits;
+use register::Writes;
 ghost use mathlib.Core.Path.{_≡_};
 ghost use Prim.Native.Nat.{_<_, _≤_};
 ghost use lib.ListN.{take};
-ghost use Rattle.command.specs.Parse.{sole, reading, resetting, printing, status, dataOf, writing, body, secondDigit, firstDigit, parse};
+ghost use Rattle.number.specs.Number.{number};
+ghost use Rattle.command.specs.Parse.{sole, reading, resetting, printing, status, writeTo, dataOf, writing, body, secondDigit, firstDigit, parse};
 
 // What a string asks: T reads a register, P prints a block, R resets a register, V writes a number to a register or a byte to J.
 // A register is given by its place in the table.
@@ -84,17 +87,26 @@ fn status(s: &[u8]) -> Asked
     }
 }
 
-// The data of V: a byte for J, else a number.
-fn data_of(i: usize, s: &[u8]) -> Asked
-    ensures { λ r. ⌜ r ≡ dataOf i (now (s .entry)) ⌝ }
+// V of a number: itself, or the limit that it was held to.
+fn write_number(i: usize, limits: Limits, s: &[u8]) -> Asked
+    ensures { λ r. ⌜ r ≡ writeTo i (number limits (now (s .entry))) ⌝ }
 {
-    if i == register::CSR {
-        return status(s);
-    }
-    let n = number::number_of(s);
+    let n = number::number_of(limits, s);
     match n {
         Number::Is(z) => Asked::Write(i, z),
+        Number::Held(z) => Asked::Write(i, z),
         Number::NoNumber => Asked::BadForm,
+    }
+}
+
+// The data of V, by what the table says of the register.
+fn data_of(i: usize, written: Writes, s: &[u8]) -> Asked
+    ensures { λ r. ⌜ r ≡ dataOf i written (now (s .entry)) ⌝ }
+{
+    match written {
+        Writes::Nothing => Asked::BadForm,
+        Writes::Number(limits) => write_number(i, limits, s),
+        Writes::Byte => status(s),
     }
 }
 
@@ -106,12 +118,8 @@ fn write(s: &[u8]) -> Asked
         return Asked::BadForm;
     }
     let i = register::index_of(s[0]);
-    let e = register::register_at(i);
-    if e.written {
-        data_of(i, &s[1..])
-    } else {
-        Asked::BadForm
-    }
+    let written = register::written_at(i);
+    data_of(i, written, &s[1..])
 }
 
 // What stands behind the address: command, register, data.

@@ -17,12 +17,10 @@ use Rattle.command.specs.Parse.{parse}
 use Rattle.line.specs.Buffer as buffers
 use Rattle.line.specs.declared.Written.{Written}
 use Rattle.line.specs.declared.Written.the-variants.{Bytes, NoRoom as NoPlace}
-use Rattle.outputs.specs.declared.Permit.{Permit}
-use Rattle.outputs.specs.declared.Permit.the-variants.{Allowed, OutOfRange as RangeLeft, InAutomatic as ModeLeft}
-use Rattle.instrument.specs.Instrument.{resetRegister, resetAlarms, batched, permit, writeRegister, writeStatus}
+use Rattle.instrument.specs.Instrument.{resetRegister, resetAlarms, batched, shut, writeRegister, writeStatus}
 use Rattle.instrument.specs.declared.Instrument.{Instrument}
 use Rattle.answer.specs.declared.Answer.{Answer}
-use Rattle.answer.specs.declared.Answer.the-variants.{Done, Replied, OtherNode, BadForm, OutOfRange, InAutomatic, NoRoom, UnknownKey}
+use Rattle.answer.specs.declared.Answer.the-variants.{Done, Replied, OtherNode, BadForm, InAutomatic, NoRoom, UnknownKey}
 use Rattle.effect.specs.Reply.{readReply, printReply}
 use Rattle.effect.specs.declared.Settled.{Settled}
 
@@ -42,17 +40,15 @@ leaves (replies reply i) = i
 
 -- ---- what is asked of this meter
 
--- a number that is written: 0, or 7, or 8
-abbrev pub written : Working → Instrument → ℕ → ℤ → Permit → Settled
-written w i r z Allowed = settled Done (writeRegister w i r z)
-written w i r z RangeLeft = settled OutOfRange i
-written w i r z ModeLeft = settled InAutomatic i
+-- a number that is written: 8 where its register is shut, else 0
+abbrev pub written : Working → Instrument → ℕ → ℤ → Settled
+written w i r z = cond (shut (i .outputs .mode) r) (settled InAutomatic i) (settled Done (writeRegister w i r z))
 
 abbrev pub carried : Talking → Working → Instrument → Asked → Effect
 carried t w i (Read r) = replies (readReply t w i r) i
 carried t w i Print = replies (printReply t w i) i
 carried t w i (Reset r) = stands (settled Done (resetRegister w i r))
-carried t w i (Write r z) = stands (written w i r z (permit (i .outputs .mode) r z))
+carried t w i (Write r z) = stands (written w i r z)
 carried t w i (Status b) = stands (settled Done (writeStatus w i b))
 carried t w i BadString = stands (settled BadForm i)
 

@@ -9,7 +9,6 @@ use config::Talking;
 use config::Working;
 use instrument::Instrument;
 use line::Written;
-use outputs::Permit;
 use reply::own_node;
 use reply::print;
 use reply::read;
@@ -20,7 +19,6 @@ ghost use Rattle.answer.specs.declared.Answer.the-variants.{Done};
 ghost use Rattle.register.specs.Registers.{at, count};
 ghost use Rattle.total.specs.Total.{Timed, inRange};
 ghost use Rattle.form.specs.Understood.{Permitted};
-ghost use Rattle.instrument.specs.Instrument.{permit};
 ghost use Rattle.command.specs.declared.Asked.{Asked};
 ghost use Rattle.command.specs.declared.Parsed.the-variants.{To};
 ghost use Rattle.effect.specs.Reply.{readReply, printReply};
@@ -95,25 +93,20 @@ fn block(
     by_room(i, i, written)
 }
 
-// V of a number.
+// V of a number that the register holds.
 fn write(working: Working, i: Instrument, register: usize, z: i32) -> Settled
     requires { ⌜ (at "E" ≤ register) × (register ≤ at "I") ⌝ }
-    ensures { λ r. ⌜ r ≡ written working i register z (permit (i .outputs .mode) register z) ⌝ }
+    ensures { λ r. ⌜ r ≡ written working i register z ⌝ }
 {
     let outputs = i.outputs;
     let mode = outputs.mode;
-    let permit = instrument::permitted(mode, register, z);
-    match permit {
-        Permit::Allowed => done(instrument::write_register(working, i, register, z)),
-        Permit::OutOfRange => Settled {
-            answer: Answer::OutOfRange,
-            instrument: i,
-        },
-        Permit::InAutomatic => Settled {
+    if instrument::is_shut(mode, register) {
+        return Settled {
             answer: Answer::InAutomatic,
             instrument: i,
-        },
+        };
     }
+    done(instrument::write_register(working, i, register, z))
 }
 
 // What is asked of this meter.

@@ -10,24 +10,27 @@ use lib.Dec.{leb, eqb}
 use lib.IntN.{ℤ, pos, negℤ}
 use lib.ListN.{length, take, drop, take-append-drop, length-drop}
 use Rattle.register.specs.Bytes.{byte}
-use Rattle.register.specs.Registers.{noRegister, entry, count, index, at}
-use Rattle.number.specs.Number.{isDigit, isPoint, figures, keep, digits, filled, onward, value, last, amount, number, plus, minus}
+use Rattle.register.specs.Registers.{Listed, noRegister, entry, count, index}
+use Rattle.number.specs.Number.{isDigit, isPoint, figures, keep, digits, filled, onward, value, last, amount, heldBy, number, plus, minus}
 use Rattle.command.specs.Parse.{sole, reading, resetting, printing, status, writeTo, dataOf, writing, body, firstDigit, secondDigit, parse}
 use Rattle.form.specs.Grammar as form
 use Rattle.form.specs.Grammar.{Digit, BeginsN, BeginsDigit, Figures, LastFive, Worth, Counts, Numeral, Letter, Body, For}
-use Rattle.register.specs.declared.Register.{Register}
+use Rattle.register.specs.declared.Limits.{Limits}
+use Rattle.register.specs.declared.Writes.{Writes}
+use Rattle.register.specs.declared.Writes.the-variants.{Nothing, Number as Limited, Byte}
 use Rattle.number.specs.declared.Amount.{Amount}
 use Rattle.number.specs.declared.Amount.the-variants.{Of, NoAmount}
 use Rattle.number.specs.declared.Number.{Number}
-use Rattle.number.specs.declared.Number.the-variants.{Is, NoNumber}
+use Rattle.number.specs.declared.Number.the-variants.{NoNumber}
 use Rattle.command.specs.declared.Asked.{Asked}
 use Rattle.command.specs.declared.Asked.the-variants.{Read, Reset, Status, BadForm}
 use Rattle.command.specs.declared.Parsed.{Parsed}
 use Rattle.command.specs.declared.Parsed.the-variants.{NoNode, To}
 use Rattle.exact.proofs.Z.{never, both}
-use Rattle.register.proofs.Table.{index-of-letter}
+use Rattle.exact.proofs.Held.{held-is}
+use Rattle.register.proofs.Table.{index-of-letter, numbered, byte-at}
 use Rattle.number.proofs.Digits.{last-all}
-use Rattle.form.proofs.Said.{digit-test, digit-of, letter-j}
+use Rattle.form.proofs.Said.{digit-test, digit-of, held-said}
 
 -- ── a V number ──
 
@@ -79,27 +82,28 @@ amount-found : (s : List ℕ) → Counted s (amount s)
 unfolding amount
 amount-found s = amount-by s (figures s && filled (digits s)) refl
 
--- a number stands there, or none
-abbrev Numbered : List ℕ → Number → Type 0
-Numbered s n = (n ≡ NoNumber) ⊎ ((z : ℤ) × (n ≡ Is z) × Numeral z s)
+module _ (l : Limits) where
+  -- a number stands there, which the limits hold, or none
+  abbrev pub Numbered : List ℕ → Number → Type 0
+  Numbered s n = (n ≡ NoNumber) ⊎ ((z : ℤ) × (n ≡ heldBy l z) × Numeral z s)
 
-minus-found : (s : List ℕ) → Counted s (amount s) → Numbered (byte "-" ∷ s) (minus (amount s))
-minus-found s (inl e) = inl (ap minus e)
-minus-found s (inr r) = inr (negℤ (pos (r .0)), ap minus (r .1), form.minus (r .2))
+  minus-found : (s : List ℕ) → Counted s (amount s) → Numbered (byte "-" ∷ s) (minus l (amount s))
+  minus-found s (inl e) = inl (ap (minus l) e)
+  minus-found s (inr r) = inr (negℤ (pos (r .0)), ap (minus l) (r .1), form.minus (r .2))
 
-plus-found : (s : List ℕ) → Counted s (amount s) → Numbered s (plus (amount s))
-plus-found s (inl e) = inl (ap plus e)
-plus-found s (inr r) = inr (pos (r .0), ap plus (r .1), form.plain (r .2))
+  plus-found : (s : List ℕ) → Counted s (amount s) → Numbered s (plus l (amount s))
+  plus-found s (inl e) = inl (ap (plus l) e)
+  plus-found s (inr r) = inr (pos (r .0), ap (plus l) (r .1), form.plain (r .2))
 
-number-by : (b : ℕ) (s : List ℕ) (t : Bool) → eqb b (byte "-") ≡ t → Numbered (b ∷ s) (cond t (minus (amount s)) (plus (amount (b ∷ s))))
-number-by b s true e =
-    subst (λ (x : ℕ). Numbered (x ∷ s) (minus (amount s))) (sym (eqb-true b (byte "-") e)) (minus-found s (amount-found s))
-number-by b s false e = plus-found (b ∷ s) (amount-found (b ∷ s))
+  number-by : (b : ℕ) (s : List ℕ) (t : Bool) → eqb b (byte "-") ≡ t → Numbered (b ∷ s) (cond t (minus l (amount s)) (plus l (amount (b ∷ s))))
+  number-by b s true e =
+      subst (λ (x : ℕ). Numbered (x ∷ s) (minus l (amount s))) (sym (eqb-true b (byte "-") e)) (minus-found s (amount-found s))
+  number-by b s false e = plus-found (b ∷ s) (amount-found (b ∷ s))
 
-number-found : (s : List ℕ) → Numbered s (number s)
-unfolding number
-number-found [] = inl refl
-number-found (b ∷ s) = number-by b s (eqb b (byte "-")) refl
+  pub number-found : (s : List ℕ) → Numbered s (number l s)
+  unfolding number
+  number-found [] = inl refl
+  number-found (b ∷ s) = number-by b s (eqb b (byte "-")) refl
 
 -- ── command, register, data ──
 
@@ -108,12 +112,12 @@ abbrev pub Judged : Asked → List ℕ → Type 0
 Judged c s = (c ≡ BadForm) ⊎ Body c s
 
 -- a register that a command takes is one of the list
-taken-by : (f : Register → Bool) (l : ℕ) → f noRegister ≡ false → f (entry (index l)) ≡ true → ((index l ≡ count) ⊎ ((index l < count) × (entry (index l) .letter ≡ l))) → Letter (index l) l
+taken-by : (f : Listed → Bool) (l : ℕ) → f noRegister ≡ false → f (entry (index l)) ≡ true → ((index l ≡ count) ⊎ ((index l < count) × (entry (index l) .letter ≡ l))) → Letter (index l) l
 unfolding entry
 taken-by f l g e (inl h) = never (sym g ∙ rw h at e)
 taken-by f l g e (inr h) = record { listed = h .0; letter = h .1 }
 
-taken : (f : Register → Bool) (l : ℕ) → f noRegister ≡ false → f (entry (index l)) ≡ true → Letter (index l) l
+taken : (f : Listed → Bool) (l : ℕ) → f noRegister ≡ false → f (entry (index l)) ≡ true → Letter (index l) l
 taken f l g e = taken-by f l g e (index-of-letter l)
 
 read-by : (l : ℕ) (t : Bool) → entry (index l) .read ≡ t → Judged (cond t (Read (index l)) BadForm) (byte "T" ∷ l ∷ [])
@@ -151,33 +155,34 @@ status-found [] = inl refl
 status-found (b ∷ []) = status-by b (leb b 127) refl
 status-found (b ∷ c ∷ s) = inl refl
 
-write-found : (r l : ℕ) (s : List ℕ) (n : Number) → Letter r l → entry r .written ≡ true → l ≢ byte "J" → Numbered s n → Judged (writeTo r n) (byte "V" ∷ l ∷ s)
-write-found r l s n h v j (inl e) = inl (ap (writeTo r) e)
-write-found r l s n h v j (inr q) = inr (subst (λ (c : Asked). Body c (byte "V" ∷ l ∷ s)) (ap (writeTo r) (sym (q .1))) (form.write h v j (q .2)))
+-- whether V writes anything to a register
+abbrev isAny : Writes → Bool
+isAny Nothing = false
+isAny (Limited l) = true
+isAny Byte = true
 
-index-j : (l : ℕ) → l ≡ byte "J" → index l ≡ at "J"
-unfolding index
-index-j l e = rw e
+abbrev isWritten : Listed → Bool
+isWritten x = isAny (x .written)
 
-data-by : (l : ℕ) (s : List ℕ) (t : Bool) → eqb (index l) (at "J") ≡ t → entry (index l) .written ≡ true → Judged (cond t (status s) (writeTo (index l) (number s))) (byte "V" ∷ l ∷ s)
-data-by l s true e v =
-    subst (λ (x : ℕ). Judged (status s) (byte "V" ∷ x ∷ s)) (sym (letter-j (taken (λ x. x .written) l refl v) (eqb-true (index l) (at "J") e))) (status-found s)
-data-by l s false e v =
-    let h = taken (λ x. x .written) l refl v in
-    write-found (index l) l s (number s) h v (λ j. eqb-false (index l) (at "J") e (index-j l j)) (number-found s)
+write-found : (r c : ℕ) (l : Limits) (s : List ℕ) (n : Number) → Letter r c → entry r .written ≡ Limited l → Numbered l s n → Judged (writeTo r n) (byte "V" ∷ c ∷ s)
+write-found r c l s n h v (inl e) = inl (ap (writeTo r) e)
+write-found r c l s n h v (inr q) =
+    inr
+    (subst (λ (a : Asked). Body a (byte "V" ∷ c ∷ s)) (sym (ap (writeTo r) (q .1) ∙ held-said r l (q .0)))
+    (form.write h v (q .2) (held-is (l .low) (l .high) (q .0) (numbered r l (h .listed) v .limits))))
 
-data-found : (l : ℕ) (s : List ℕ) → entry (index l) .written ≡ true → Judged (dataOf (index l) s) (byte "V" ∷ l ∷ s)
+data-found : (c : ℕ) (s : List ℕ) (w : Writes) → entry (index c) .written ≡ w → Judged (dataOf (index c) w s) (byte "V" ∷ c ∷ s)
 unfolding dataOf
-data-found l s v = data-by l s (eqb (index l) (at "J")) refl v
-
-writing-by : (l : ℕ) (s : List ℕ) (t : Bool) → entry (index l) .written ≡ t → Judged (cond t (dataOf (index l) s) BadForm) (byte "V" ∷ l ∷ s)
-writing-by l s true e = data-found l s e
-writing-by l s false e = inl refl
+data-found c s Nothing v = inl refl
+data-found c s (Limited l) v = write-found (index c) c l s (number l s) (taken isWritten c refl (rw v)) v (number-found l s)
+data-found c s Byte v =
+    let h = taken isWritten c refl (rw v) in
+    subst (λ (x : ℕ). Judged (status s) (byte "V" ∷ x ∷ s)) (sym (byte-at (index c) (h .listed) v) ∙ h .letter) (status-found s)
 
 writing-found : (s : List ℕ) → Judged (writing s) (byte "V" ∷ s)
 unfolding writing
 writing-found [] = inl refl
-writing-found (l ∷ s) = writing-by l s (entry (index l) .written) refl
+writing-found (c ∷ s) = data-found c s (entry (index c) .written) refl
 
 one-of : (b k : ℕ) (c d : Asked) (s : List ℕ) (t : Bool) → eqb b k ≡ t → Judged c (k ∷ s) → Judged d (b ∷ s) → Judged (cond t c d) (b ∷ s)
 one-of b k c d s true e p q = subst (λ (x : ℕ). Judged c (x ∷ s)) (sym (eqb-true b k e)) p

@@ -137,7 +137,7 @@ free : {a : Asked} {s : List ℕ} → Body a s → (BeginsN s → ⊥) × (Begin
 free (form.read {l = l} h e) = not-first (byte "T") (l ∷ []) (λ k. omega arith) refl
 free (form.reset {l = l} h e) = not-first (byte "R") (l ∷ []) (λ k. omega arith) refl
 free form.print = not-first (byte "P") [] (λ k. omega arith) refl
-free (form.write {l = l} {s = s} h e j n) = not-first (byte "V") (l ∷ s) (λ k. omega arith) refl
+free (form.write {l = l} {s = s} h e n i) = not-first (byte "V") (l ∷ s) (λ k. omega arith) refl
 free (form.status {b} h) = not-first (byte "V") (byte "J" ∷ b ∷ []) (λ k. omega arith) refl
 
 pub no-choice : (s : List ℕ) (a : Asked) → Body a s → (BeginsN s → ⊥) × (BeginsDigit s → ⊥)

@@ -10,12 +10,11 @@ use lib.Dec.{eqb}
 use lib.ListN.{length}
 use Rattle.exact.proofs.Z.{never, both, turned-true}
 use Rattle.register.specs.Bytes.{byte}
-use Rattle.register.specs.Registers.{entry, at}
+use Rattle.register.specs.Registers.{entry}
 use Rattle.register.proofs.Ranges.{range}
-use Rattle.register.proofs.Table.{ruled}
+use Rattle.register.proofs.Table.{ruled, numbered}
 use Rattle.receiver.specs.Receiver.{limit, over}
 use Rattle.command.specs.Parse.{body, parse}
-use Rattle.number.proofs.Digits.{number-size}
 use Rattle.command.specs.declared.Asked.{Asked}
 use Rattle.command.specs.declared.Asked.the-variants.{Read, Print, Reset, Write, Status, BadForm}
 use Rattle.command.specs.declared.Parsed.{Parsed}
@@ -25,7 +24,6 @@ use Rattle.form.specs.Grammar.{Address, Body, Says}
 use Rattle.form.specs.Change as change
 use Rattle.form.specs.Change.{alters, altersAt, VOrR, Change}
 use Rattle.form.specs.Understood.{Permitted}
-use Rattle.form.proofs.Said.{numeral-said, letter-j}
 use Rattle.form.proofs.Found.{Judged, Named, body-found, address-found}
 use Rattle.form.proofs.Meaning.{same, apart, for-parse, says-parse, asked}
 
@@ -36,9 +34,6 @@ node-99 (form.no-n h) = omega arith
 node-99 (form.one-digit g h) = omega arith
 node-99 (form.two-digits g h) = omega arith
 
-to-i : (r : ℕ) → r ≤ at "J" → r ≢ at "J" → r ≤ at "I"
-to-i r h n = omega arith
-
 permitted-body : {a : Asked} {s : List ℕ} → Body a s → Permitted a
 permitted-body (form.read h e) = h .listed
 permitted-body (form.reset {r} h e) =
@@ -47,12 +42,10 @@ permitted-body (form.reset {r} h e) =
     let k = t .letter in
     (omega arith, omega arith)
 permitted-body form.print = tt
-permitted-body (form.write {r} {l} {z} {s} h e j n) =
-    let t = ruled r (h .listed) in
-    let v = range (byte "E") (byte "J") (entry r .letter) (sym (t .written) ∙ e) in
-    let k = t .letter in
-    let d = number-size s z (numeral-said n) in
-    (omega arith, to-i r (omega arith) (λ i. j (letter-j h i)), omega arith)
+permitted-body (form.write {r} {limits = l} h e n i) =
+    let t = numbered r l (h .listed) e in
+    let k = ruled r (h .listed) .letter in
+    (omega arith, omega arith, rw e (i .inside))
 permitted-body (form.status h) = h
 
 permitted-by : (a : Asked) (s : List ℕ) → Judged a s → Permitted a

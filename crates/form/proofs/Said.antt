@@ -1,6 +1,6 @@
 -- What a string says by its form the parser finds.
 use mathlib.Core.Path.{_≡_, refl, sym, ap, subst, _∙_}
-use mathlib.Core.Bool.{Bool, true, false}
+use mathlib.Core.Bool.{Bool, true, false, cond}
 use mathlib.Core.List.{List, [], _∷_, _++_}
 use mathlib.Core.Logic.{_≢_}
 use Prim.Native.Nat.{ℕ, _+_, _-_, _*_, _≤_}
@@ -8,18 +8,23 @@ use native.Mathlib.Omega.{arith}
 use borrow.Author.Tests.{ne-eqb, le-leb}
 use lib.IntN.{ℤ}
 use Rattle.register.specs.Bytes.{byte}
-use Rattle.register.specs.Registers.{entry, index, at}
-use Rattle.number.specs.Number.{isDigit, figures, digits, filled, value, last, amount, number, plus}
-use Rattle.command.specs.Parse.{sole, reading, resetting, printing, status, dataOf, writing, body, firstDigit, secondDigit, parse}
+use Rattle.exact.specs.Sign.{within, heldTo}
+use Rattle.exact.specs.Meaning.{IsHeld}
+use Rattle.exact.proofs.Held.{held-same, held-only}
+use Rattle.register.specs.Registers.{entry, index}
+use Rattle.register.specs.declared.Limits.{Limits}
+use Rattle.register.specs.declared.Writes.the-variants.{Number as Limited}
+use Rattle.number.specs.Number.{isDigit, figures, digits, filled, value, last, amount, heldBy, number, plus}
+use Rattle.command.specs.Parse.{sole, reading, resetting, printing, status, writeTo, dataOf, writing, body, firstDigit, secondDigit, parse}
 use Rattle.form.specs.Grammar as form
 use Rattle.form.specs.Grammar.{Digit, BeginsN, BeginsDigit, Address, Figures, LastFive, Worth, Counts, Numeral, Letter, Body}
 use Rattle.number.specs.declared.Amount.the-variants.{Of}
-use Rattle.number.specs.declared.Number.the-variants.{Is}
+use Rattle.number.specs.declared.Number.the-variants.{Is, Held}
 use Rattle.command.specs.declared.Asked.{Asked}
 use Rattle.command.specs.declared.Asked.the-variants.{Read, Reset, Write, Status}
 use Rattle.command.specs.declared.Parsed.the-variants.{To}
 use Rattle.register.proofs.Ranges.{in-range, range}
-use Rattle.register.proofs.Table.{ruled, letter-index}
+use Rattle.register.proofs.Table.{letter-index}
 use Rattle.number.proofs.Digits.{value-more, last-end, last-all}
 
 -- ── digits ──
@@ -60,28 +65,24 @@ counts-said (form.counts {ds = ds} {s = s} f h l w) =
     let r = figures-said f in
     rw (r .0, r .1, filled-some ds h, last-five-said l, worth-said w)
 
-plain-first : {ds s : List ℕ} → Figures ds s → ds ≢ [] → number s ≡ plus (amount s)
+plain-first : {ds s : List ℕ} (l : Limits) → Figures ds s → ds ≢ [] → number l s ≡ plus l (amount s)
 unfolding number
-plain-first form.end h = absurd (h refl)
-plain-first (form.point f) h = refl
-plain-first (form.digit {d} {b} g f) h = rw (ne-eqb b (byte "-") (λ e. omega arith))
+plain-first l form.end h = absurd (h refl)
+plain-first l (form.point f) h = refl
+plain-first l (form.digit {d} {b} g f) h = rw (ne-eqb b (byte "-") (λ e. omega arith))
 
-plain-said : {n : ℕ} {s : List ℕ} → Counts n s → number s ≡ plus (amount s)
-plain-said (form.counts f h l w) = plain-first f h
+plain-said : {n : ℕ} {s : List ℕ} (l : Limits) → Counts n s → number l s ≡ plus l (amount s)
+plain-said l (form.counts f h k w) = plain-first l f h
 
-pub numeral-said : {z : ℤ} {s : List ℕ} → Numeral z s → number s ≡ Is z
+pub numeral-said : {z : ℤ} {s : List ℕ} (l : Limits) → Numeral z s → number l s ≡ heldBy l z
 unfolding number
-numeral-said (form.plain c) = plain-said c ∙ ap plus (counts-said c)
-numeral-said (form.minus c) = rw (counts-said c)
+numeral-said l (form.plain c) = plain-said l c ∙ ap (plus l) (counts-said c)
+numeral-said l (form.minus c) = rw (counts-said c)
 
 -- ── command, register, data ──
 
 pub index-said : {r l : ℕ} → Letter r l → index l ≡ r
 index-said {r} h = ap index (sym (h .letter)) ∙ letter-index r (h .listed)
-
--- the register that takes a byte has the letter J
-pub letter-j : {r l : ℕ} → Letter r l → r ≡ at "J" → l ≡ byte "J"
-letter-j {r} h e = sym (h .letter) ∙ ruled r (h .listed) .letter ∙ omega arith
 
 read-said : {r l : ℕ} → Letter r l → entry r .read ≡ true → reading (l ∷ []) ≡ Read r
 unfolding reading sole
@@ -91,9 +92,20 @@ reset-said : {r l : ℕ} → Letter r l → entry r .reset ≡ true → resettin
 unfolding resetting sole
 reset-said h e = rw (index-said h, e)
 
-write-said : {r l : ℕ} {z : ℤ} {s : List ℕ} → Letter r l → entry r .written ≡ true → l ≢ byte "J" → Numeral z s → writing (l ∷ s) ≡ Write r z
+-- held or not, what is written is the number that was held
+held-by : (r : ℕ) (l : Limits) (z : ℤ) (t : Bool) → within (l .low) (l .high) z ≡ t
+    → writeTo r (cond t (Is z) (Held (heldTo (l .low) (l .high) z))) ≡ Write r (heldTo (l .low) (l .high) z)
+held-by r l z true e = ap (Write r) (sym (held-same (l .low) (l .high) z e))
+held-by r l z false e = refl
+
+pub held-said : (r : ℕ) (l : Limits) (z : ℤ) → writeTo r (heldBy l z) ≡ Write r (heldTo (l .low) (l .high) z)
+held-said r l z = held-by r l z (within (l .low) (l .high) z) refl
+
+write-said : {r c : ℕ} {l : Limits} {z y : ℤ} {s : List ℕ} → Letter r c → entry r .written ≡ Limited l → Numeral z s → IsHeld (l .low) (l .high) z y
+    → writing (c ∷ s) ≡ Write r y
 unfolding writing dataOf
-write-said {r} h e j n = rw (index-said h, e, ne-eqb r (at "J") (λ i. j (letter-j h i)), numeral-said n)
+write-said {r} {l = l} {z} {y} h e n i =
+    rw (index-said h, e, numeral-said l n) (held-said r l z ∙ ap (Write r) (sym (held-only (l .low) (l .high) z y i)))
 
 status-said : {b : ℕ} → b ≤ 127 → writing (byte "J" ∷ b ∷ []) ≡ Status b
 unfolding writing dataOf status index entry
@@ -104,7 +116,7 @@ unfolding body printing
 body-said (form.read h e) = read-said h e
 body-said (form.reset h e) = reset-said h e
 body-said form.print = refl
-body-said (form.write h e j n) = write-said h e j n
+body-said (form.write h e n i) = write-said h e n i
 body-said (form.status h) = status-said h
 
 -- ── the address, read as it stands ──

@@ -3,7 +3,8 @@ use Prim.Native.Nat.{ℕ}
 use Prim.Native.String.{String}
 use mathlib.Core.Path.{_≡_}
 use mathlib.Core.List.{List, [], _∷_, _++_, map}
-use lib.IntN.{pos, negsuc}
+use lib.IntN.{pos}
+use Rattle.exact.specs.Sign.{minus}
 use Rattle.register.specs.Bytes.{ascii}
 use Rattle.register.specs.Registers.{at}
 use Rattle.command.specs.Parse.{parse}
@@ -91,20 +92,33 @@ cases =
     ∷ asksByte "T" 0xC1 (To 0 BadForm)
     -- numbers
     ∷ asks "VE123456" (To 0 (Write (at "E") (pos 23_456)))
-    ∷ asks "VE-120000" (To 0 (Write (at "E") (negsuc 19_999)))
     ∷ asks "VE123456789012345678901234567890" (To 0 (Write (at "E") (pos 67_890)))
     ∷ asks "VE1.2.3" (To 0 (Write (at "E") (pos 123)))
-    ∷ asks "VE-.5" (To 0 (Write (at "E") (negsuc 4)))
+    ∷ asks "VE-.5" (To 0 (Write (at "E") (minus 5)))
     ∷ asks "VE..7" (To 0 (Write (at "E") (pos 7)))
     ∷ asks "VE7." (To 0 (Write (at "E") (pos 7)))
     ∷ asks "VE00042" (To 0 (Write (at "E") (pos 42)))
     ∷ asks "VE-0" (To 0 (Write (at "E") (pos 0)))
     ∷ asks "VE-100000" (To 0 (Write (at "E") (pos 0)))
-    ∷ asks "VI5000" (To 0 (Write (at "I") (pos 5_000)))
     ∷ asks "VI5" (To 0 (Write (at "I") (pos 5)))
     ∷ asks "VI-0" (To 0 (Write (at "I") (pos 0)))
-    ∷ asks "VI-1" (To 0 (Write (at "I") (negsuc 0)))
     ∷ asks "VI100000" (To 0 (Write (at "I") (pos 0)))
+    -- the limits, and past them: the last five digits count first
+    ∷ asks "VE99999" (To 0 (Write (at "E") (pos 99_999)))
+    ∷ asks "VE100000" (To 0 (Write (at "E") (pos 0)))
+    ∷ asks "VE-19999" (To 0 (Write (at "E") (minus 19_999)))
+    ∷ asks "VE-20000" (To 0 (Write (at "E") (minus 19_999)))
+    ∷ asks "VE-120000" (To 0 (Write (at "E") (minus 19_999)))
+    ∷ asks "VE-119998" (To 0 (Write (at "E") (minus 19_998)))
+    ∷ asks "VF-99999" (To 0 (Write (at "F") (minus 19_999)))
+    ∷ asks "VG-20001" (To 0 (Write (at "G") (minus 19_999)))
+    ∷ asks "VH-50000" (To 0 (Write (at "H") (minus 19_999)))
+    ∷ asks "VI4096" (To 0 (Write (at "I") (pos 4_095)))
+    ∷ asks "VI5000" (To 0 (Write (at "I") (pos 4_095)))
+    ∷ asks "VI99999" (To 0 (Write (at "I") (pos 4_095)))
+    ∷ asks "VI104095" (To 0 (Write (at "I") (pos 4_095)))
+    ∷ asks "VI-1" (To 0 (Write (at "I") (pos 0)))
+    ∷ asks "VI-99999" (To 0 (Write (at "I") (pos 0)))
     -- and what is none
     ∷ asks "VE" (To 0 BadForm)
     ∷ asks "VE-" (To 0 BadForm)

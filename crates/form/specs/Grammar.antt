@@ -8,7 +8,10 @@ use mathlib.Core.List.{List, [], _∷_, _++_}
 use lib.IntN.{ℤ, pos, negℤ}
 use lib.ListN.{length}
 use Rattle.register.specs.Bytes.{byte}
+use Rattle.exact.specs.Meaning.{IsHeld}
 use Rattle.register.specs.Registers.{entry, count}
+use Rattle.register.specs.declared.Limits.{Limits}
+use Rattle.register.specs.declared.Writes.the-variants.{Number as Limited}
 use Rattle.command.specs.declared.Asked.{Asked}
 use Rattle.command.specs.declared.Asked.the-variants.{Read, Print, Reset, Write, Status}
 
@@ -66,12 +69,14 @@ pub record Letter (r l : ℕ) : Type 0 where
   pub listed : r < count
   pub letter : entry r .letter ≡ l
 
--- `Body a s`: s asks a. T, R and V take the registers that the list permits them, P takes none; only V has data, J's is one byte of 0 to 127
+-- `Body a s`: s asks a. T, R and V take the registers that the list permits them, P takes none. Only V has data: a number, of which the one
+-- nearest to it within the register's limits is written, and for J one byte of 0 to 127
 pub data Body : Asked → List ℕ → Type 0 where
   read : {r l : ℕ} → Letter r l → entry r .read ≡ true → Body (Read r) (byte "T" ∷ l ∷ [])
   reset : {r l : ℕ} → Letter r l → entry r .reset ≡ true → Body (Reset r) (byte "R" ∷ l ∷ [])
   print : Body Print (byte "P" ∷ [])
-  write : {r l : ℕ} {z : ℤ} {s : List ℕ} → Letter r l → entry r .written ≡ true → l ≢ byte "J" → Numeral z s → Body (Write r z) (byte "V" ∷ l ∷ s)
+  write : {r l : ℕ} {limits : Limits} {z y : ℤ} {s : List ℕ} → Letter r l → entry r .written ≡ Limited limits → Numeral z s → IsHeld (limits .low) (limits .high) z y
+      → Body (Write r y) (byte "V" ∷ l ∷ s)
   status : {b : ℕ} → b ≤ 127 → Body (Status b) (byte "V" ∷ byte "J" ∷ b ∷ [])
 
 -- ── a string ──

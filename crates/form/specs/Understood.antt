@@ -5,26 +5,31 @@ use mathlib.Core.Bool.{true}
 use mathlib.Core.List.{List}
 use mathlib.Core.Logic.{_≢_, _↔_}
 use mathlib.Core.Option.{none, some}
-use lib.IntN.{natAbs}
-use Rattle.register.specs.Registers.{count, at}
+use lib.IntN.{ℤ}
+use lib.Signed.{leZ}
+use Rattle.register.specs.Registers.{entry, holds, count, at}
+use Rattle.register.specs.declared.Limits.{Limits}
+use Rattle.number.specs.Number.{number}
+use Rattle.number.specs.Reads.{Reads}
+use Rattle.number.specs.declared.Number.the-variants.{NoNumber}
 use Rattle.command.specs.Parse.{parse}
 use Rattle.command.specs.Addressed.{addressed}
 use Rattle.command.specs.declared.Asked.{Asked}
 use Rattle.command.specs.declared.Asked.the-variants.{Read, Print, Reset, Write, Status, BadForm}
 use Rattle.command.specs.declared.Parsed.the-variants.{NoNode, To}
-use Rattle.form.specs.Grammar.{BeginsN, BeginsDigit, Body, For, Says, NoDigit}
+use Rattle.form.specs.Grammar.{BeginsN, BeginsDigit, Numeral, Body, For, Says, NoDigit}
 use Rattle.form.specs.Change.{change, Change}
 
 -- s asks nothing of node n
 abbrev pub Silent : List ℕ → ℕ → Type 0
 Silent s n = (a : Asked) → Says s n a → ⊥
 
--- what a string can ask: registers that their command takes, a number of five digits, a byte of seven bits
+-- what a string can ask: registers that their command takes, a number that the register holds, a byte of seven bits
 abbrev pub Permitted : Asked → Type 0
 Permitted (Read r) = r < count
 Permitted Print = Unit
 Permitted (Reset r) = (at "B" ≤ r) × (r ≤ at "H")
-Permitted (Write r z) = (at "E" ≤ r) × (r ≤ at "I") × (natAbs z ≤ 99_999)
+Permitted (Write r z) = (at "E" ≤ r) × (r ≤ at "I") × (holds (entry r .written) z ≡ true)
 Permitted (Status b) = b ≤ 127
 Permitted BadForm = Unit
 
@@ -46,5 +51,8 @@ pub record Understood : Type 0 where
   pub addressed-to-none : (s : List ℕ) → (addressed s ≡ none) ↔ NoDigit s
   -- the test for a well-formed V or R to node n holds exactly where the form says so
   pub changes : (s : List ℕ) (n : ℕ) → (change n s ≡ true) ↔ Change s n
+  -- the number reader reads the number that stands there, cut to five digits, and holds that to the limits; where none stands there it says so
+  pub numbers : (l : Limits) (s : List ℕ) (z : ℤ) → leZ (l .low) (l .high) ≡ true → Numeral z s → Reads l z (number l s)
+  pub no-number : (l : Limits) (s : List ℕ) → (number l s ≡ NoNumber) ↔ ((z : ℤ) → Numeral z s → ⊥)
   -- whatever is found is within what its type may hold
   pub permitted : (s : List ℕ) (n : ℕ) (a : Asked) → parse s ≡ To n a → (n ≤ 99) × Permitted a

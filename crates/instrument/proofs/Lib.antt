@@ -1,4 +1,4 @@
-pub mod Permits
+pub mod Limits
 pub mod Keys
 pub mod Registers
 pub mod Modes

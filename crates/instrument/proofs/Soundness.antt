@@ -2,7 +2,7 @@
 -- Assumes nothing.
 use borrow.Author.Tests.{eqb-false}
 use native.Mathlib.Omega.{arith}
-use mathlib.Core.Path.{_≡_, refl}
+use mathlib.Core.Path.{_≡_, refl, sym, _∙_}
 use mathlib.Core.Bool.{Bool, true, false, cond, _&&_}
 use mathlib.Core.List.{List}
 use Prim.Native.Nat.{ℕ, _≤_, _<_}
@@ -10,7 +10,7 @@ use lib.Dec.{eqb}
 use lib.IntN.{ℤ, pos, natAbs}
 use Rattle.exact.specs.Sign.{within}
 use Rattle.exact.proofs.Z.{both, either}
-use Rattle.register.specs.Registers.{at}
+use Rattle.register.specs.Registers.{entry, holds, at}
 use Rattle.reading.specs.Reading.{inDisplay, displayable, point}
 use Rattle.reading.specs.declared.Reading.{Reading}
 use Rattle.reading.proofs.Laws.{reading-displayable}
@@ -33,12 +33,11 @@ use Rattle.measured.proofs.Laws as measured-sound
 use Rattle.outputs.specs.Outputs as outputs
 use Rattle.outputs.specs.Meaning as outputs-by-part
 use Rattle.outputs.specs.declared.Outputs.{Outputs}
-use Rattle.outputs.specs.declared.Permit.the-variants.{Allowed}
 use Rattle.outputs.proofs.Laws as outputs-sound
-use Rattle.instrument.specs.Instrument.{withMeasured, withAlarms, withOutputs, alarmOf, poweredUp, read, sampled, resetRegister, resetAlarms, batched, permit, writeRegister, writeStatus, sound}
+use Rattle.instrument.specs.Instrument.{withMeasured, withAlarms, withOutputs, alarmOf, poweredUp, read, sampled, resetRegister, resetAlarms, batched, writeRegister, writeStatus, sound}
 use Rattle.instrument.specs.Meaning.{Sound}
 use Rattle.instrument.specs.declared.Instrument.{Instrument}
-use Rattle.instrument.proofs.Permits.{allowed-only}
+use Rattle.instrument.proofs.Limits.{holds-is}
 
 -- what holds of each of two where a test chooses it holds of the one that it chooses
 pub chosen : {A : Type 0} (P : A → Type 0) (t : Bool) {x y : A} → (t ≡ true → P x) → (t ≡ false → P y) → P (cond t x y)
@@ -109,11 +108,11 @@ module _ (w : Working) (i : Instrument) (p : Sound w i) where
       (either (Sound w) (eqb r (at "D")) (with-measured-sound _ (measured-sound.reset-min-sound w (i .measured) (p .measured)))
       (with-alarms-sound _ (alarms-sound.reset-at-sound (i .alarms) (p .alarms) (alarmOf r) (omega arith)))))
 
-  -- V of a number that is allowed
-  pub write-register-sound : (r : ℕ) (z : ℤ) → r ≤ at "I" → permit (i .outputs .mode) r z ≡ Allowed → Sound w (writeRegister w i r z)
+  -- V of a number that the register holds
+  pub write-register-sound : (r : ℕ) (z : ℤ) → at "E" ≤ r → r ≤ at "I" → holds (entry r .written) z ≡ true → Sound w (writeRegister w i r z)
   unfolding writeRegister
-  write-register-sound r z h e =
-      let n = allowed-only (i .outputs .mode) r z e .0 in
+  write-register-sound r z l h e =
+      let n = sym (holds-is r z l h) ∙ e in
       chosen (Sound w) (eqb r (at "I"))
       (λ t. with-outputs-sound _ (outputs-sound.write-code-sound (i .outputs) (p .outputs) z (rw t at n)))
       (λ t. with-alarms-sound _ (alarms-sound.written-at-sound (i .alarms) (p .alarms) (alarmOf r) z (index r h (eqb-false r (at "I") t)) (rw t at n)))
@@ -191,9 +190,9 @@ module _ (w : Working) (i : Instrument) (e : sound w i ≡ true) where
   pub reset-register-stays : (r : ℕ) → r ≤ at "H" → sound w (resetRegister w i r) ≡ true
   reset-register-stays r h = kept (λ p. reset-register-sound w i p r h)
 
-  -- V of a number that is allowed
-  pub write-register-stays : (r : ℕ) (z : ℤ) → r ≤ at "I" → permit (i .outputs .mode) r z ≡ Allowed → sound w (writeRegister w i r z) ≡ true
-  write-register-stays r z h a = kept (λ p. write-register-sound w i p r z h a)
+  -- V of a number that the register holds
+  pub write-register-stays : (r : ℕ) (z : ℤ) → at "E" ≤ r → r ≤ at "I" → holds (entry r .written) z ≡ true → sound w (writeRegister w i r z) ≡ true
+  write-register-stays r z l h e = kept (λ p. write-register-sound w i p r z l h e)
 
   -- VJ
   pub write-status-stays : (b : ℕ) → sound w (writeStatus w i b) ≡ true

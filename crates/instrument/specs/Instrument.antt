@@ -7,7 +7,7 @@ use lib.Dec.{eqb}
 use lib.IntN.{ℤ, pos, natAbs}
 use Rattle.exact.specs.Sign.{within}
 use Rattle.register.specs.Registers.{at}
-use Rattle.reading.specs.Reading.{inDisplay, readingOf}
+use Rattle.reading.specs.Reading.{readingOf}
 use Rattle.reading.specs.declared.Reading.{Reading}
 use Rattle.alarm.specs.declared.Alarm.{Alarm}
 use Rattle.alarms.specs.Alarms as alarms
@@ -19,8 +19,6 @@ use Rattle.measured.specs.declared.Measured.{Measured}
 use Rattle.outputs.specs.Outputs as outputs
 use Rattle.outputs.specs.declared.Mode.{Mode}
 use Rattle.outputs.specs.declared.Outputs.{Outputs}
-use Rattle.outputs.specs.declared.Permit.{Permit}
-use Rattle.outputs.specs.declared.Permit.the-variants.{Allowed, OutOfRange}
 use Rattle.instrument.specs.declared.Instrument.{Instrument}
 
 -- ---- parts, changed one at a time
@@ -76,15 +74,11 @@ resetAlarms w i = withAlarms i (alarms.allReset (i .alarms))
 abbrev pub batched : Working → Instrument → Instrument
 batched w i = withMeasured i (measured.batched w (i .measured))
 
--- ---- V
+-- ---- V of a number that the register holds: I is the analog register, E to H are the setpoints
 
--- setpoints -19,999 to 99,999
-unfoldable pub setpointPermit : ℤ → Permit
-setpointPermit z = cond (inDisplay z) Allowed OutOfRange
-
--- I is the analog register, E to H are the setpoints
-unfoldable pub permit : Mode → ℕ → ℤ → Permit
-permit mode r z = cond (eqb r (at "I")) (outputs.codePermit mode z) (setpointPermit z)
+-- the analog register is shut in automatic mode
+abbrev pub shut : Mode → ℕ → Bool
+shut mode r = eqb r (at "I") && outputs.automatic mode
 
 unfoldable pub writeRegister : Working → Instrument → ℕ → ℤ → Instrument
 writeRegister w i r z =

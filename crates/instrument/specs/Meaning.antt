@@ -1,6 +1,6 @@
 -- What keys, V and R come to, said without their definitions' way of working it out.
 use mathlib.Core.Path.{_≡_}
-use mathlib.Core.Bool.{Bool, true, false, cond, _&&_}
+use mathlib.Core.Bool.{Bool, cond}
 use Prim.Native.Nat.{ℕ, _%_}
 use lib.Dec.{eqb}
 use lib.IntN.{ℤ}
@@ -11,12 +11,10 @@ use Rattle.alarms.specs.Meaning as alarms
 use Rattle.config.specs.declared.Working.{Working}
 use Rattle.measured.specs.Measured as measured
 use Rattle.measured.specs.Sound as measured-sound
-use Rattle.outputs.specs.Outputs.{automatic, inCode, codeBy}
+use Rattle.outputs.specs.Outputs.{inCode, codeBy}
 use Rattle.outputs.specs.Meaning as outputs-sound
-use Rattle.outputs.specs.declared.Mode.{Mode}
 use Rattle.outputs.specs.declared.Mode.the-variants.{Automatic, Manual}
-use Rattle.outputs.specs.declared.Permit.the-variants.{Allowed, OutOfRange, InAutomatic}
-use Rattle.instrument.specs.Instrument.{withMeasured, resetRegister, resetAlarms, permit}
+use Rattle.instrument.specs.Instrument.{withMeasured, resetRegister, resetAlarms}
 use Rattle.instrument.specs.declared.Instrument.{Instrument}
 
 -- ---- R by its letter, and keys 2 to 5, which act as the R strings do
@@ -29,20 +27,10 @@ pub record Keys (w : Working) (i : Instrument) : Type 0 where
   -- key 5 is RE, RF, RG and RH in turn
   pub alarms : resetAlarms w i ≡ resetRegister w (resetRegister w (resetRegister w (resetRegister w i (at "E")) (at "F")) (at "G")) (at "H")
 
--- ---- a V number: out of range first (7), then the analog register in automatic mode (8)
+-- ---- the numbers that V leaves in a register: an analog code in I, a number that can be displayed in E to H
 
--- the range of the register that is written: 0 to 4,095 at I, the display range at E to H
 abbrev pub numberIn : ℕ → ℤ → Bool
 numberIn r z = cond (eqb r (at "I")) (inCode z) (inDisplay z)
-
--- the analog register is shut in automatic mode
-abbrev pub shut : Mode → ℕ → Bool
-shut mode r = eqb r (at "I") && automatic mode
-
-pub record Judged (mode : Mode) (r : ℕ) (z : ℤ) : Type 0 where
-  pub out : numberIn r z ≡ false → permit mode r z ≡ OutOfRange
-  pub shuts : numberIn r z ≡ true → shut mode r ≡ true → permit mode r z ≡ InAutomatic
-  pub allows : numberIn r z ≡ true → shut mode r ≡ false → permit mode r z ≡ Allowed
 
 -- ---- V and R of one alarm, and VJ with byte b, make n of i
 

@@ -7,7 +7,6 @@ use config::Working;
 use measured::Measured;
 use outputs::Mode;
 use outputs::Outputs;
-use outputs::Permit;
 use reading::Reading;
 ghost use mathlib.Core.Path.{_≡_};
 ghost use mathlib.Core.Bool.{true, false};
@@ -18,7 +17,7 @@ ghost use Rattle.reading.specs.Reading.{Scalable};
 ghost use Rattle.total.specs.Total.{Timed, inRange};
 ghost use Rattle.register.specs.Registers.{at, count};
 ghost use Rattle.config.specs.Config.{placesRule};
-ghost use Rattle.instrument.specs.Instrument.{poweredUp, read, sampled, resetRegister, resetAlarms, batched, setpointPermit, permit, writeRegister, writeStatus, sound, canScale};
+ghost use Rattle.instrument.specs.Instrument.{poweredUp, read, sampled, resetRegister, resetAlarms, batched, shut, writeRegister, writeStatus, sound, canScale};
 ghost use Rattle.instrument.specs.Shown.{status, shownAt, placesAt};
 
 // All that is kept from one event to the next, the receiver apart: what was measured, the alarms, and how the outputs are driven.
@@ -114,29 +113,14 @@ pub fn batched(working: Working, i: Instrument) -> Instrument
     n
 }
 
-// Whether a number may be written to a setpoint.
-fn setpoint_permit(z: i32) -> Permit
-    ensures { λ r. ⌜ r ≡ setpointPermit z ⌝ }
+// Whether V is refused: the analog register is shut in automatic mode.
+pub fn is_shut(mode: Mode, register: usize) -> bool
+    ensures { λ r. ⌜ r ≡ shut mode register ⌝ }
 {
-    if reading::in_display(z) {
-        Permit::Allowed
-    } else {
-        Permit::OutOfRange
-    }
+    (register == register::AOR) & outputs::is_automatic(mode)
 }
 
-// Whether a number may be written to a register.
-pub fn permitted(mode: Mode, register: usize, z: i32) -> Permit
-    ensures { λ r. ⌜ r ≡ permit mode register z ⌝ }
-{
-    if register == register::AOR {
-        outputs::code_permit(mode, z)
-    } else {
-        setpoint_permit(z)
-    }
-}
-
-// V of a number that may be written, to E to H or I.
+// V of a number, to E to H or I.
 pub fn write_register(working: Working, i: Instrument, register: usize, z: i32) -> Instrument
     requires { ⌜ (at "E" ≤ register) × (register ≤ at "I") ⌝ }
     ensures { λ r. ⌜ r ≡ writeRegister working i register z ⌝ }

@@ -27,13 +27,12 @@ use Rattle.command.specs.declared.Asked.{Asked}
 use Rattle.command.specs.declared.Asked.the-variants.{Read, Print, Reset, Write, Status, BadForm as BadString}
 use Rattle.command.specs.declared.Parsed.{Parsed}
 use Rattle.command.specs.declared.Parsed.the-variants.{NoNode, To}
-use Rattle.outputs.specs.declared.Permit.{Permit}
-use Rattle.outputs.specs.declared.Permit.the-variants.{Allowed, OutOfRange, InAutomatic}
-use Rattle.instrument.specs.Instrument.{permit, resetRegister, writeRegister, writeStatus}
+use Rattle.instrument.specs.Instrument.{shut, resetRegister, writeRegister, writeStatus}
 use Rattle.instrument.specs.declared.Instrument.{Instrument}
 use Rattle.instrument.proofs.Soundness.{chosen}
 use Rattle.effect.specs.Effect as effects
 use Rattle.effect.specs.Effect.{Effect, leaves, stands, settled, written}
+use Rattle.effect.specs.declared.Settled.{Settled}
 use Rattle.looking.specs.History.{History, meterAfter, nodeOf}
 use Rattle.looking.specs.Kept.{Entry, measured, pressed, told, kept}
 use Rattle.looking.specs.Given.{given}
@@ -63,11 +62,11 @@ module _ (t : Talking) (w : Working) (i : Instrument) where
 
   -- ---- a string
 
-  written-left : (r : ℕ) (z : ℤ) (p : Permit) → Left i false false (written w i r z p .instrument)
+  written-left : (r : ℕ) (z : ℤ) → Left i false false (written w i r z .instrument)
   unfolding writeRegister
-  written-left r z Allowed = either (Left i false false) (eqb r (at "I")) (record { reading = refl; max = refl; min = refl }) (record { reading = refl; max = refl; min = refl })
-  written-left r z OutOfRange = untouched
-  written-left r z InAutomatic = untouched
+  written-left r z =
+      either (λ (s : Settled). Left i false false (s .instrument)) (shut (i .outputs .mode) r) untouched
+      (either (Left i false false) (eqb r (at "I")) (record { reading = refl; max = refl; min = refl }) (record { reading = refl; max = refl; min = refl }))
 
   status-left : (b : ℕ) → Left i false false (writeStatus w i b)
   unfolding writeStatus
@@ -77,7 +76,7 @@ module _ (t : Talking) (w : Working) (i : Instrument) where
   carried-left (Read r) = untouched
   carried-left Print = untouched
   carried-left (Reset r) = resets-left r
-  carried-left (Write r z) = written-left r z (permit (i .outputs .mode) r z)
+  carried-left (Write r z) = written-left r z
   carried-left (Status b) = status-left b
   carried-left BadString = untouched
 

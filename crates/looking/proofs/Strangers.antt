@@ -28,9 +28,7 @@ use Rattle.command.specs.declared.Parsed.{Parsed}
 use Rattle.command.specs.declared.Parsed.the-variants.{NoNode, To}
 use Rattle.form.specs.Grammar.{Says}
 use Rattle.form.proofs.Meaning.{asked}
-use Rattle.outputs.specs.declared.Permit.{Permit}
-use Rattle.outputs.specs.declared.Permit.the-variants.{Allowed, OutOfRange, InAutomatic}
-use Rattle.instrument.specs.Instrument.{permit}
+use Rattle.instrument.specs.Instrument.{shut}
 use Rattle.instrument.specs.declared.Instrument.{Instrument}
 use Rattle.effect.specs.Effect.{Effect, stands, replies, settled, settle, written, carried, addressed, pressed}
 use Rattle.effect.specs.declared.Settled.{Settled}
@@ -75,16 +73,14 @@ module _ (c : Config) (i : Instrument) (buffer : List ℕ) (place : ℕ) where
   abbrev Silent : Settled → Type 0
   Silent s = number (s .answer) ≢ 2
 
-  write-silent : (r : ℕ) (z : ℤ) (p : Permit) → Silent (written (c .working) i r z p)
-  write-silent r z Allowed e = omega arith
-  write-silent r z OutOfRange e = omega arith
-  write-silent r z InAutomatic e = omega arith
+  write-silent : (r : ℕ) (z : ℤ) → Silent (written (c .working) i r z)
+  write-silent r z = either Silent (shut (i .outputs .mode) r) (λ e. omega arith) (λ e. omega arith)
 
   drawn-asked : (s : List ℕ) (n : ℕ) (a : Asked) → parse s ≡ To n a → Drawn ((b : Asked) × Reads s n b) (carried (c .talking) (c .working) i a)
   drawn-asked s n (Read r) p e = (Read r, sent.read (found s n (Read r) p (λ k. let z : _≡_ {A = ℕ} 0 1 = cc in omega arith)))
   drawn-asked s n Print p e = (Print, sent.print (found s n Print p (λ k. let z : _≡_ {A = ℕ} 0 1 = cc in omega arith)))
   drawn-asked s n (Reset r) p e = absurd (omega arith)
-  drawn-asked s n (Write r z) p e = absurd (write-silent r z (permit (i .outputs .mode) r z) e)
+  drawn-asked s n (Write r z) p e = absurd (write-silent r z e)
   drawn-asked s n (Status b) p e = absurd (omega arith)
   drawn-asked s n BadForm p e = absurd (omega arith)
 

@@ -11,6 +11,7 @@ use lib.IntN.{ℤ, pos}
 use Rattle.config.specs.Config.{judged}
 use Rattle.config.specs.declared.Config.{Config}
 use Rattle.config.specs.declared.Verdict.the-variants.{Accepted}
+use Rattle.exact.proofs.Z.{either}
 use Rattle.register.specs.Registers.{at}
 use Rattle.receiver.specs.Receiver.{ends}
 use Rattle.receiver.specs.Since.{ending, since}
@@ -20,11 +21,10 @@ use Rattle.form.specs.Grammar.{Says}
 use Rattle.form.proofs.Meaning.{says-parse}
 use Rattle.alarms.specs.Alarms.{setpointOf}
 use Rattle.alarms.proofs.Laws.{present-setpoint}
-use Rattle.outputs.specs.declared.Permit.{Permit}
-use Rattle.outputs.specs.declared.Permit.the-variants.{Allowed, OutOfRange, InAutomatic}
-use Rattle.instrument.specs.Instrument.{withAlarms, alarmOf, permit, writeRegister}
+use Rattle.instrument.specs.Instrument.{withAlarms, alarmOf, shut, writeRegister}
 use Rattle.instrument.specs.declared.Instrument.{Instrument}
 use Rattle.effect.specs.Effect.{written}
+use Rattle.effect.specs.declared.Settled.{Settled}
 use Rattle.answer.specs.Answer.{number}
 use Rattle.answer.specs.declared.Answer.{Answer}
 use Rattle.meter.specs.Meter.{received}
@@ -57,9 +57,7 @@ are-refused a =
     let n : ℕ = number a in
     one-of
     (one-of
-    (one-of
     (one-of (one-of (refusing n 3 (omega arith) (omega arith)) (refusing n 4 (omega arith) (omega arith))) (refusing n 6 (omega arith) (omega arith)))
-    (refusing n 7 (omega arith) (omega arith)))
     (refusing n 8 (omega arith) (omega arith)))
     (refusing n 9 (omega arith) (omega arith))
 
@@ -74,13 +72,11 @@ module _ (c : Config) (i : Instrument) (r : ℕ) (from : at "E" ≤ r) (to : r �
   unfolding writeRegister
   same-value = rw (ne-eqb r (at "I") (λ e. omega arith)) (ap (withAlarms i) (present-setpoint (i .alarms) (alarmOf r)))
 
-  same-written : (p : Permit) → written (c .working) i r present p .instrument ≡ i
-  same-written Allowed = same-value
-  same-written OutOfRange = refl
-  same-written InAutomatic = refl
+  same-written : written (c .working) i r present .instrument ≡ i
+  same-written = either (λ (s : Settled). s .instrument ≡ i) (shut (i .outputs .mode) r) refl same-value
 
   rewritten : (s : List ℕ) (t : Bool) → Says s (nodeOf c) (Write r present) → carriedBy c i (cond t (some (told s)) none) ≡ i
-  rewritten s true x = rw (says-parse x, eq-eqb (nodeOf c) (nodeOf c) refl) (same-written (permit (i .outputs .mode) r present))
+  rewritten s true x = rw (says-parse x, eq-eqb (nodeOf c) (nodeOf c) refl) same-written
   rewritten s false x = refl
 
 -- ── one event after two histories ──

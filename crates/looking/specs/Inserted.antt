@@ -23,12 +23,12 @@ use Rattle.answer.specs.declared.Answer.{Answer}
 use Rattle.looking.specs.History.{Event, sample, key, byte, History, outcomeOf, meterAfter, nodeOf, half}
 use Rattle.looking.specs.Sent.{Reads}
 
--- the refusals: another node, bad form, too long, outside the range, automatic mode, no room
+-- the refusals: another node, bad form, too long, automatic mode, no room
 abbrev pub refusal : Answer → Bool
-refusal a = let n : ℕ = number a in eqb n 3 || eqb n 4 || eqb n 6 || eqb n 7 || eqb n 8 || eqb n 9
+refusal a = let n : ℕ = number a in eqb n 3 || eqb n 4 || eqb n 6 || eqb n 8 || eqb n 9
 
 -- a string s, sent to a meter that holds the instrument i and answers its end so, that only looks, or is for another node, or is
--- refused; or one that writes a setpoint's present value
+-- refused; or one that writes a setpoint's present value, as it is or by a number that is held to it
 pub data Idle (c : Config) (i : Instrument) (s : List ℕ) (answer : Answer) : Type 0 where
   read : (a : Asked) → Reads s (nodeOf c) a → Idle c i s answer
   other-node : (n : ℕ) → addressed s ≡ some n → n ≢ nodeOf c → Idle c i s answer

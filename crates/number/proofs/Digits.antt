@@ -5,17 +5,15 @@ use mathlib.Core.List.{List, [], _∷_, _++_}
 use Prim.Native.Nat.{ℕ, zero, suc, _+_, _-_, _*_, _%_, _^_, _≤_, _<_}
 use native.Mathlib.Omega.{arith}
 use native.Mathlib.Nat.{mod-eq-of-lt, pow-succ', pow-le-pow-right, mul-le-mul-left, mod-mod, mul-add-mod-self-left, mod-lt}
-use lib.Dec.{leb, eqb}
+use lib.Dec.{leb}
 use borrow.Author.Tests.{leb-true, leb-false, ne-eqb}
 use lib.ListN.{length, take, drop, take-append-drop, length-append, length-drop}
 use lib.Seq.{drop-at}
-use lib.IntN.{ℤ, pos, negℤ, natAbs}
 use Rattle.register.specs.Bytes.{byte}
-use Rattle.number.specs.Number.{isDigit, figures, keep, digits, filled, onward, value, last, amount, number, plus, minus}
+use Rattle.number.specs.Number.{isDigit, figures, keep, digits, filled, onward, value, last, amount}
 use Rattle.register.proofs.Ranges.{range}
 use Rattle.number.specs.declared.Amount.{Amount}
 use Rattle.number.specs.declared.Amount.the-variants.{Of, NoAmount}
-use Rattle.number.specs.declared.Number.the-variants.{Is}
 
 -- digits: each at most 9
 pub data Tens : List ℕ → Type 0 where
@@ -156,22 +154,3 @@ digits-append (b ∷ s) t = ap (keep (isDigit b) (b - byte "0")) (digits-append 
 
 pub point-ignored : (s t : List ℕ) → digits (s ++ byte "." ∷ t) ≡ digits (s ++ t)
 point-ignored s t = digits-append s (byte "." ∷ t) ∙ sym (digits-append s t)
-
--- a number is within five digits
-minus-size : (a : Amount) (z : ℤ) → ((n : ℕ) → a ≡ Of n → n < 100000) → minus a ≡ Is z → natAbs z < 100000
-minus-size (Of zero) z h e = let k : negℤ (pos zero) ≡ z = cc in rw (← k) (omega arith)
-minus-size (Of (suc n)) z h e = let k : negℤ (pos (suc n)) ≡ z = cc in rw (← k) (h (suc n) refl)
-minus-size NoAmount z h e = let y : _≡_ {A = ℕ} 0 1 = cc in absurd (omega arith)
-
-plus-size : (a : Amount) (z : ℤ) → ((n : ℕ) → a ≡ Of n → n < 100000) → plus a ≡ Is z → natAbs z < 100000
-plus-size (Of n) z h e = let k : pos n ≡ z = cc in rw (← k) (h n refl)
-plus-size NoAmount z h e = let y : _≡_ {A = ℕ} 0 1 = cc in absurd (omega arith)
-
-size-by : (b : ℕ) (s : List ℕ) (z : ℤ) (t : Bool) → cond t (minus (amount s)) (plus (amount (b ∷ s))) ≡ Is z → natAbs z < 100000
-size-by b s z true e = minus-size (amount s) z (small s) e
-size-by b s z false e = plus-size (amount (b ∷ s)) z (small (b ∷ s)) e
-
-pub number-size : (s : List ℕ) (z : ℤ) → number s ≡ Is z → natAbs z < 100000
-unfolding number
-number-size [] z e = let y : _≡_ {A = ℕ} 0 1 = cc in absurd (omega arith)
-number-size (b ∷ s) z e = size-by b s z (eqb b (byte "-")) e

@@ -1,16 +1,18 @@
 -- A V number: an optional leading minus and then digits and points, at least one digit; points are ignored and the last five digits count.
--- Whether it is within a register's range is another question, and judged elsewhere.
+-- Then the limits of the register hold, and the answer says whether they had to.
 use Prim.Native.Nat.{ℕ, _+_, _-_, _*_}
 use mathlib.Core.Bool.{Bool, true, false, cond, _&&_, _||_}
 use mathlib.Core.List.{List, [], _∷_}
 use lib.Dec.{eqb}
-use lib.IntN.{pos, negℤ}
+use lib.IntN.{ℤ, pos, negℤ}
 use lib.ListN.{length, drop}
+use Rattle.exact.specs.Sign.{heldTo, within as withinZ}
 use Rattle.register.specs.Bytes.{byte, within}
+use Rattle.register.specs.declared.Limits.{Limits}
 use Rattle.number.specs.declared.Amount.{Amount}
 use Rattle.number.specs.declared.Amount.the-variants.{Of, NoAmount}
 use Rattle.number.specs.declared.Number.{Number}
-use Rattle.number.specs.declared.Number.the-variants.{Is, NoNumber}
+use Rattle.number.specs.declared.Number.the-variants.{Is, Held, NoNumber}
 
 abbrev pub isDigit : ℕ → Bool
 isDigit b = within (byte "0") (byte "9") b
@@ -52,14 +54,18 @@ last k ds = drop (length ds - k) ds
 unfoldable pub amount : List ℕ → Amount
 amount s = cond (figures s && filled (digits s)) (Of (value (last 5 (digits s)))) NoAmount
 
-abbrev pub plus : Amount → Number
-plus (Of n) = Is (pos n)
-plus NoAmount = NoNumber
+-- z where it lies within the limits, else the limit nearest to it
+abbrev pub heldBy : Limits → ℤ → Number
+heldBy l z = cond (withinZ (l .low) (l .high) z) (Is z) (Held (heldTo (l .low) (l .high) z))
 
-abbrev pub minus : Amount → Number
-minus (Of n) = Is (negℤ (pos n))
-minus NoAmount = NoNumber
+abbrev pub plus : Limits → Amount → Number
+plus l (Of n) = heldBy l (pos n)
+plus l NoAmount = NoNumber
 
-unfoldable pub number : List ℕ → Number
-number [] = NoNumber
-number (b ∷ s) = cond (eqb b (byte "-")) (minus (amount s)) (plus (amount (b ∷ s)))
+abbrev pub minus : Limits → Amount → Number
+minus l (Of n) = heldBy l (negℤ (pos n))
+minus l NoAmount = NoNumber
+
+unfoldable pub number : Limits → List ℕ → Number
+number l [] = NoNumber
+number l (b ∷ s) = cond (eqb b (byte "-")) (minus l (amount s)) (plus l (amount (b ∷ s)))

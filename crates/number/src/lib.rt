@@ -1,8 +1,9 @@
-// A V number, read from its bytes.
+// A V number, read from its bytes and held to the limits of the register that it is for.
+use register::Limits;
 ghost use mathlib.Core.Path.{_≡_};
 ghost use Prim.Native.Nat.{_<_};
 ghost use lib.IntN.{pos, negℤ};
-ghost use Rattle.number.specs.Number.{amount, number};
+ghost use Rattle.number.specs.Number.{amount, heldBy, number};
 
 // The digits of a V number: its last five, without a sign.
 pub enum Amount {
@@ -10,9 +11,10 @@ pub enum Amount {
     NoAmount,
 }
 
-// A V number, with its sign. Whether it is within a register's range is judged elsewhere.
+// What a V number comes to: the number itself, or the limit that it was held to.
 pub enum Number {
     Is(i32),
+    Held(i32),
     NoNumber,
 }
 
@@ -62,9 +64,22 @@ fn minus(n: u32) -> i32
     0 - plus(n)
 }
 
-// A V number: an optional leading minus, and its digits.
-pub fn number_of(s: &[u8]) -> Number
-    ensures { λ r. ⌜ r ≡ number (now (s .entry)) ⌝ }
+// A number past a limit is held to that limit.
+fn held_to(limits: Limits, z: i32) -> Number
+    ensures { λ r. ⌜ r ≡ heldBy limits z ⌝ }
+{
+    if z < limits.low {
+        return Number::Held(limits.low);
+    }
+    if limits.high < z {
+        return Number::Held(limits.high);
+    }
+    Number::Is(z)
+}
+
+// A V number: an optional leading minus, and its digits. The last five are taken first, and then the limits hold.
+pub fn number_of(limits: Limits, s: &[u8]) -> Number
+    ensures { λ r. ⌜ r ≡ number limits (now (s .entry)) ⌝ }
 {
     if s.len() == 0 {
         return Number::NoNumber;
@@ -74,14 +89,14 @@ pub fn number_of(s: &[u8]) -> Number
         b'-' => {
             let a = amount_of(&s[1..]);
             match a {
-                Amount::Of(n) => Number::Is(minus(n)),
+                Amount::Of(n) => held_to(limits, minus(n)),
                 Amount::NoAmount => Number::NoNumber,
             }
         }
         _ => {
             let a = amount_of(s);
             match a {
-                Amount::Of(n) => Number::Is(plus(n)),
+                Amount::Of(n) => held_to(limits, plus(n)),
                 Amount::NoAmount => Number::NoNumber,
             }
         }

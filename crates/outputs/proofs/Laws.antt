@@ -1,5 +1,4 @@
--- What a V number for the analog register meets, and soundness of the outputs: the test and its parts, and that whatever changes them
--- leaves them sound. Assumes nothing.
+-- Soundness of the outputs: the test and its parts, and that whatever changes them leaves them sound. Assumes nothing.
 use borrow.Author.Tests.{le-leb}
 use native.Mathlib.Omega.{arith}
 use mathlib.Core.Path.{_≡_, refl}
@@ -10,16 +9,11 @@ use Rattle.exact.proofs.Z.{both}
 use Rattle.reading.specs.declared.Reading.{Reading}
 use Rattle.analog.proofs.Laws.{code-range}
 use Rattle.config.specs.declared.Working.{Working}
-use Rattle.outputs.specs.Outputs.{poweredUp, coded, sampled, inCode, codePermit, writeCode, toManual, toAutomatic, bitsIn, sound}
-use Rattle.outputs.specs.Meaning.{CodeJudged, Sound}
+use Rattle.outputs.specs.Outputs.{poweredUp, coded, sampled, inCode, writeCode, toManual, toAutomatic, bitsIn, sound}
+use Rattle.outputs.specs.Meaning.{Sound}
 use Rattle.outputs.specs.declared.Mode.{Mode}
 use Rattle.outputs.specs.declared.Mode.the-variants.{Automatic, Manual}
 use Rattle.outputs.specs.declared.Outputs.{Outputs}
-
--- the range is judged first (7), then automatic mode (8), and every other number is allowed
-pub code-judged : (mode : Mode) (z : ℤ) → CodeJudged mode z
-unfolding codePermit
-code-judged mode z = record { out = λ e. rw e; shuts = λ e a. rw (e, a); allows = λ e a. rw (e, a) }
 
 -- ---- the test and its parts
 

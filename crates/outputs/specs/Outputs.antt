@@ -1,5 +1,5 @@
 -- How the outputs are driven: the analog code, and automatic or manual mode.
-use mathlib.Core.Bool.{Bool, true, false, cond, _&&_}
+use mathlib.Core.Bool.{Bool, true, false, _&&_}
 use Prim.Native.Nat.{ℕ, _+_, _%_}
 use lib.Dec.{leb}
 use lib.IntN.{ℤ, pos}
@@ -10,8 +10,6 @@ use Rattle.config.specs.declared.Working.{Working}
 use Rattle.outputs.specs.declared.Mode.{Mode}
 use Rattle.outputs.specs.declared.Mode.the-variants.{Automatic, Manual}
 use Rattle.outputs.specs.declared.Outputs.{Outputs}
-use Rattle.outputs.specs.declared.Permit.{Permit}
-use Rattle.outputs.specs.declared.Permit.the-variants.{Allowed, OutOfRange, InAutomatic}
 
 abbrev pub outputs : ℤ → Mode → Outputs
 outputs code mode = record { code = code; mode = mode }
@@ -33,17 +31,11 @@ coded w (Manual bits) code r = code
 abbrev pub sampled : Working → Outputs → Reading → Outputs
 sampled w o r = outputs (coded w (o .mode) (o .code) r) (o .mode)
 
--- ---- V of the analog register: 0 to 4,095, and not in automatic mode; the number is judged first
+-- ---- V of the analog register, which is shut in automatic mode
 
 abbrev pub automatic : Mode → Bool
 automatic Automatic = true
 automatic (Manual bits) = false
-
-abbrev pub inCode : ℤ → Bool
-inCode z = within (pos 0) (pos 4095) z
-
-unfoldable pub codePermit : Mode → ℤ → Permit
-codePermit mode z = cond (inCode z) (cond (automatic mode) InAutomatic Allowed) OutOfRange
 
 abbrev pub writeCode : Outputs → ℤ → Outputs
 writeCode o z = outputs z (o .mode)
@@ -66,6 +58,9 @@ status Automatic on = on
 status (Manual bits) on = 16 + bits
 
 -- ---- what showing them leans on: the code is one, and the manual outputs are four bits
+
+abbrev pub inCode : ℤ → Bool
+inCode z = within (pos 0) (pos 4095) z
 
 unfoldable pub bitsIn : Mode → Bool
 bitsIn Automatic = true

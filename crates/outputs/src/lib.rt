@@ -6,7 +6,7 @@ ghost use mathlib.Core.Bool.{false};
 ghost use Prim.Native.Nat.{_≤_};
 ghost use lib.IntN.{pos};
 ghost use Rattle.exact.specs.Sign.{eqZ};
-ghost use Rattle.outputs.specs.Outputs.{poweredUp, sampled, coded, inCode, codePermit, writeCode, toManual, toAutomatic, status, bitsIn, sound};
+ghost use Rattle.outputs.specs.Outputs.{poweredUp, sampled, coded, automatic, writeCode, toManual, toAutomatic, status, inCode, bitsIn, sound};
 
 // Automatic, or manual with the four outputs as bits 0 to 3.
 pub enum Mode {
@@ -17,13 +17,6 @@ pub enum Mode {
 pub struct Outputs {
     pub code: i32,
     pub mode: Mode,
-}
-
-// What a written number meets.
-pub enum Permit {
-    Allowed,
-    OutOfRange,
-    InAutomatic,
 }
 
 // Automatic mode with code 0.
@@ -58,24 +51,13 @@ pub fn sampled(working: Working, o: Outputs, reading: Reading) -> Outputs
     Outputs { code, mode }
 }
 
-// Whether a number is an analog code.
-fn in_code(z: i32) -> bool
-    ensures { λ r. ⌜ r ≡ inCode z ⌝ }
+// Whether the mode is automatic.
+pub fn is_automatic(mode: Mode) -> bool
+    ensures { λ r. ⌜ r ≡ automatic mode ⌝ }
 {
-    (0 <= z) & (z <= 4095)
-}
-
-// Whether a number may be written to the analog register: its range is judged before the mode.
-pub fn code_permit(mode: Mode, z: i32) -> Permit
-    ensures { λ r. ⌜ r ≡ codePermit mode z ⌝ }
-{
-    if in_code(z) {
-        match mode {
-            Mode::Automatic => Permit::InAutomatic,
-            Mode::Manual(_) => Permit::Allowed,
-        }
-    } else {
-        Permit::OutOfRange
+    match mode {
+        Mode::Automatic => true,
+        Mode::Manual(_) => false,
     }
 }
 
@@ -118,6 +100,13 @@ pub fn status(mode: Mode, on: u32) -> i32
         Mode::Automatic => on as i32,
         Mode::Manual(bits) => 16 + bits as i32,
     }
+}
+
+// Whether a number is an analog code.
+fn in_code(z: i32) -> bool
+    ensures { λ r. ⌜ r ≡ inCode z ⌝ }
+{
+    (0 <= z) & (z <= 4095)
 }
 
 // Whether the manual outputs are four bits.

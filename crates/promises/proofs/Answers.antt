@@ -2,7 +2,7 @@
 use mathlib.Core.Path.{_≡_, refl}
 use mathlib.Core.Bool.{true}
 use mathlib.Core.List.{List}
-use mathlib.Core.Logic.{_≢_}
+use mathlib.Core.Logic.{_≢_, ⊎-elim}
 use Prim.Native.Nat.{ℕ, _≤_}
 use native.Mathlib.Omega.{arith}
 use borrow.Author.Tests.{le-leb}
@@ -29,13 +29,13 @@ verdicts : (c : Config) (v : Verdict) → possible (power-up c) (number (byVerdi
 verdicts c Accepted = refl
 verdicts c (Broken rule) = refl
 
--- a byte of any kind that is let in is answered by 0 to 9
-by-kinds : (P : ℕ → Type 0) → ((n : ℕ) → n ≤ 9 → P n) → (m n : Meter) (buffer : List ℕ) (place : ℕ) (k : Kind)
+-- a byte of any kind that is let in is answered by 0 to 6, 8 or 9
+by-kinds : (P : ℕ → Type 0) → ((n : ℕ) → n ≤ 6 → P n) → P 8 → P 9 → (m n : Meter) (buffer : List ℕ) (place : ℕ) (k : Kind)
     → P (number (byKind m n buffer place k .outcome .answer))
-by-kinds P small m n buffer place Part = small 1 (omega arith)
-by-kinds P small m n buffer place Drop = small 5 (omega arith)
-by-kinds P small m n buffer place End =
-    answered-by buffer place P (small 0 (omega arith)) (λ n r. small n (omega arith)) (small 2 (omega arith)) (small 9 (omega arith)) (end-upon m)
+by-kinds P small eight nine m n buffer place Part = small 1 (omega arith)
+by-kinds P small eight nine m n buffer place Drop = small 5 (omega arith)
+by-kinds P small eight nine m n buffer place End =
+    answered-by buffer place P (small 0 (omega arith)) (λ n r. ⊎-elim (λ h. small n (h .1)) (λ e. rw e eight) r) (small 2 (omega arith)) nine (end-upon m)
 
 pub numbered : (k : Call) → possible k (answered k) ≡ true
 numbered (power-up c) = verdicts c (judged c)
@@ -46,7 +46,7 @@ numbered (key m k buffer place) =
 numbered (byte m b buffer place) =
     let P : ℕ → Type 0 = λ n. possible (byte m b buffer place) n ≡ true in
     either (λ (s : Step). P (number (s .outcome .answer))) (door (reachOf (kind b)) m)
-    (by-kinds P (λ n small. rw (le-leb n 9 small)) m (takes m b) buffer place (kind b)) refl
+    (by-kinds P (λ n small. rw (le-leb n 6 small)) refl refl m (takes m b) buffer place (kind b)) refl
 
 -- a sound meter never answers 12
 pub sound-never-12 : (m : Meter) → sound m ≡ true → Never12 m
@@ -60,5 +60,5 @@ sound-never-12 m ok =
           (answered-by buffer place P (λ q. omega arith) (λ n ten q. omega arith) (λ q. omega arith) (λ q. omega arith) (key-upon m k));
       received =
           λ b buffer place.
-          rw (received-in m buffer place b (stands-open m (reachOf (kind b)) ok)) (by-kinds P (λ n small q. omega arith) m (takes m b) buffer place (kind b));
+          rw (received-in m buffer place b (stands-open m (reachOf (kind b)) ok)) (by-kinds P (λ n small q. omega arith) (λ q. omega arith) (λ q. omega arith) m (takes m b) buffer place (kind b));
     }

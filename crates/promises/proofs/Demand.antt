@@ -4,6 +4,7 @@ use mathlib.Core.Bool.{true}
 use mathlib.Core.List.{List}
 use Prim.Native.Nat.{ℕ}
 use lib.ListN.{length}
+use Rattle.answer.proofs.Numbered as answers
 use Rattle.config.specs.declared.Verdict.{Verdict}
 use Rattle.receiver.specs.Receiver.{kind}
 use Rattle.receiver.specs.declared.Receiver.{Receiver}
@@ -12,7 +13,7 @@ use Rattle.meter.specs.Door.{sound, reachOf}
 use Rattle.meter.specs.Meter.{Step, byVerdict}
 use Rattle.meter.specs.declared.Meter.{Meter}
 use Rattle.meter.specs.declared.Outcome.{Outcome}
-use Rattle.promises.specs.Calls.{Call, Allows}
+use Rattle.promises.specs.Calls.{Call, result, Allows}
 use Rattle.promises.specs.Started as started
 use Rattle.promises.specs.Started.{Reached, Places}
 use Rattle.promises.specs.Demand.{Demand1}
@@ -51,6 +52,7 @@ demand-1 =
     record {
       one-outcome = one-outcome;
       numbered = numbered;
+      never-7 = λ k. answers.numbered .withdrawn (result k .outcome .answer);
       power-up-rows = power-up-rows;
       event-rows = event-rows;
       exactly = exactly;

@@ -1,6 +1,8 @@
 -- Which effects a key and a string can have. Assumes nothing.
 use mathlib.Core.Path.{_≡_, refl}
+use mathlib.Core.Bool.{true}
 use mathlib.Core.List.{List}
+use mathlib.Core.Logic.{_⊎_, inl, inr}
 use Prim.Native.Nat.{ℕ, _≤_}
 use native.Mathlib.Omega.{arith}
 use lib.Dec.{eqb}
@@ -8,10 +10,10 @@ use lib.IntN.{ℤ, pos, natAbs}
 use lib.ListN.{take}
 use Rattle.exact.specs.Sign.{eqZ}
 use Rattle.exact.proofs.Z.{either}
-use Rattle.register.specs.Registers.{at}
+use Rattle.register.specs.Registers.{entry, holds, at}
 use Rattle.answer.specs.Answer.{number}
 use Rattle.answer.specs.declared.Answer.{Answer}
-use Rattle.answer.specs.declared.Answer.the-variants.{Done, OtherNode, BadForm, TooLong, OutOfRange, InAutomatic, UnknownKey}
+use Rattle.answer.specs.declared.Answer.the-variants.{Done, OtherNode, BadForm, TooLong, InAutomatic, UnknownKey}
 use Rattle.config.specs.declared.Talking.{Talking}
 use Rattle.config.specs.declared.Working.{Working}
 use Rattle.receiver.specs.Receiver.{over}
@@ -22,11 +24,9 @@ use Rattle.command.specs.declared.Parsed.{Parsed}
 use Rattle.command.specs.declared.Parsed.the-variants.{NoNode, To}
 use Rattle.form.specs.Understood.{Permitted}
 use Rattle.form.proofs.Understood.{understood}
-use Rattle.outputs.specs.declared.Permit.{Permit}
-use Rattle.outputs.specs.declared.Permit.the-variants.{Allowed, OutOfRange as RangeLeft, InAutomatic as ModeLeft}
 use Rattle.instrument.specs.Instrument as instruments
 use Rattle.instrument.specs.declared.Instrument.{Instrument}
-use Rattle.effect.specs.Effect.{Effect, stands, replies, settled, written, carried, addressed, pressed}
+use Rattle.effect.specs.Effect.{Effect, stands, replies, settled, carried, addressed, pressed}
 use Rattle.meter.specs.Meter.{keyEffect, endEffect}
 use Rattle.meter.specs.declared.Meter.{Meter}
 
@@ -35,7 +35,7 @@ pub data Changed (w : Working) (i : Instrument) : Instrument → Type 0 where
   by-batch : Changed w i (instruments.batched w i)
   by-reset : (r : ℕ) → r ≤ at "H" → Changed w i (instruments.resetRegister w i r)
   by-alarms : Changed w i (instruments.resetAlarms w i)
-  by-write : (r : ℕ) (z : ℤ) → r ≤ at "I" → instruments.permit (i .outputs .mode) r z ≡ Allowed → Changed w i (instruments.writeRegister w i r z)
+  by-write : (r : ℕ) (z : ℤ) → at "E" ≤ r → r ≤ at "I" → holds (entry r .written) z ≡ true → Changed w i (instruments.writeRegister w i r z)
   by-status : (b : ℕ) → Changed w i (instruments.writeStatus w i b)
 
 -- what an effect upon i can be: a change that is carried out (0), or a refusal or a reply, which leave i as it was
@@ -44,12 +44,12 @@ pub data Upon (w : Working) (i : Instrument) (Refusal : ℕ → Type 0) : Effect
   refused : (a : Answer) → Refusal (number a) → Upon w i Refusal (stands (settled a i))
   reply : (text : List ℕ) → Upon w i Refusal (replies text i)
 
--- a key is refused by 10, a string by one of 3 to 8
+-- a key is refused by 10, a string by one of 3 to 6 or by 8
 abbrev pub KeyRefusal : ℕ → Type 0
 KeyRefusal n = n ≡ 10
 
 abbrev pub StringRefusal : ℕ → Type 0
-StringRefusal n = (3 ≤ n) × (n ≤ 8)
+StringRefusal n = ((3 ≤ n) × (n ≤ 6)) ⊎ (n ≡ 8)
 
 module _ (t : Talking) (w : Working) (i : Instrument) where
   abbrev ByKey : Effect → Type 0
@@ -67,24 +67,19 @@ module _ (t : Talking) (w : Working) (i : Instrument) where
   abbrev ByString : Effect → Type 0
   ByString = Upon w i StringRefusal
 
-  written-upon : (r : ℕ) (z : ℤ) (p : Permit) → r ≤ at "I" → instruments.permit (i .outputs .mode) r z ≡ p
-      → ByString (stands (written w i r z p))
-  written-upon r z Allowed h e = done (by-write r z h e)
-  written-upon r z RangeLeft h e = refused OutOfRange (omega arith, omega arith)
-  written-upon r z ModeLeft h e = refused InAutomatic (omega arith, omega arith)
-
   carried-upon : (a : Asked) → Permitted a → ByString (carried t w i a)
   carried-upon (Read r) h = reply _
   carried-upon Print h = reply _
   carried-upon (Reset r) h = done (by-reset r (h .1))
-  carried-upon (Write r z) h = written-upon r z (instruments.permit (i .outputs .mode) r z) (h .1) refl
+  carried-upon (Write r z) h =
+      either (λ s. ByString (stands s)) (instruments.shut (i .outputs .mode) r) (refused InAutomatic (inr refl)) (done (by-write r z (h .0) (h .1) (h .2)))
   carried-upon (Status b) h = done (by-status b)
-  carried-upon BadString h = refused BadForm (omega arith, omega arith)
+  carried-upon BadString h = refused BadForm (inl (omega arith, omega arith))
 
   addressed-upon : (s : List ℕ) (p : Parsed) → parse s ≡ p → ByString (addressed t w i p)
-  addressed-upon s NoNode e = refused BadForm (omega arith, omega arith)
+  addressed-upon s NoNode e = refused BadForm (inl (omega arith, omega arith))
   addressed-upon s (To n a) e =
-      either ByString (eqb n (natAbs (t .node))) (carried-upon a (understood .permitted s n a e .1)) (refused OtherNode (omega arith, omega arith))
+      either ByString (eqb n (natAbs (t .node))) (carried-upon a (understood .permitted s n a e .1)) (refused OtherNode (inl (omega arith, omega arith)))
 
 pub key-upon : (m : Meter) (k : ℤ) → Upon (m .config .working) (m .instrument) KeyRefusal (keyEffect m k)
 key-upon m k = pressed-upon (m .config .talking) (m .config .working) (m .instrument) k
@@ -93,5 +88,5 @@ pub end-upon : (m : Meter) → Upon (m .config .working) (m .instrument) StringR
 end-upon m =
     let s = take (m .receiver .length) (m .receiver .bytes) in
     either (Upon (m .config .working) (m .instrument) StringRefusal) (over (m .receiver .length))
-    (refused TooLong (omega arith, omega arith))
+    (refused TooLong (inl (omega arith, omega arith)))
     (addressed-upon (m .config .talking) (m .config .working) (m .instrument) s (parse s) refl)

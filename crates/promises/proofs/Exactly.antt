@@ -26,7 +26,7 @@ use Rattle.command.specs.declared.Parsed.{Parsed}
 use Rattle.command.specs.declared.Parsed.the-variants.{NoNode, To}
 use Rattle.form.specs.Grammar.{Says}
 use Rattle.form.proofs.Understood.{understood}
-use Rattle.instrument.specs.Meaning.{numberIn, shut}
+use Rattle.instrument.specs.Instrument.{shut}
 use Rattle.meter.specs.Door.{sound, reachOf, door}
 use Rattle.meter.specs.declared.Meter.{Meter}
 use Rattle.promises.specs.Calls.{Call, power-up, sample, key, byte, answered}
@@ -69,9 +69,8 @@ module _ {m : Meter} {buffer : List ℕ} {place : ℕ} where
   byte-answers {b} (rows.no-digit s e d) = table .row-4 .no-digit b s e d .number
   byte-answers {b} (rows.other-node s n e f other) = table .row-3 b n s e f other .number
   byte-answers {b} (rows.bad-form s e f silent) = table .row-4 .bad-form b s e f silent .number
-  byte-answers {b} (rows.out-of-range s r z e x outside) = table .row-7 b r z s e x outside .number
-  byte-answers {b} (rows.in-automatic s r z e x inside closed) = table .row-8 b r z s e x inside closed .number
-  byte-answers {b} (rows.written s r z e x inside free) = table .row-0 .write b r z s e x inside free .number
+  byte-answers {b} (rows.in-automatic s r z e x closed) = table .row-8 b r z s e x closed .number
+  byte-answers {b} (rows.written s r z e x free) = table .row-0 .write b r z s e x free .number
   byte-answers {b} (rows.status s v e x) = table .row-0 .status b v s e x .number
   byte-answers {b} (rows.reset s r e x) = table .row-0 .reset b r s e x .number
   byte-answers {b} (rows.read s r e x room) = table .row-2 .read b r s e x room .number
@@ -133,10 +132,9 @@ module _ (m : Meter) (buffer : List ℕ) (place : ℕ) where
     Byte = Some (OfByte m b buffer place)
 
     module _ (s : List ℕ) (e : Ends m b s) where
-      written-covers : (r : ℕ) (z : ℤ) → Says s (nodeOf m) (Write r z) → (t u : Bool) → numberIn r z ≡ t → shut (m .instrument .outputs .mode) r ≡ u → Byte
-      written-covers r z x false u i c = (7, rows.out-of-range s r z e x i)
-      written-covers r z x true true i c = (8, rows.in-automatic s r z e x i c)
-      written-covers r z x true false i c = (0, rows.written s r z e x i c)
+      written-covers : (r : ℕ) (z : ℤ) → Says s (nodeOf m) (Write r z) → (t : Bool) → shut (m .instrument .outputs .mode) r ≡ t → Byte
+      written-covers r z x true c = (8, rows.in-automatic s r z e x c)
+      written-covers r z x false c = (0, rows.written s r z e x c)
 
       says : (a : Asked) → parse s ≡ To (nodeOf m) a → a ≢ BadForm → Says s (nodeOf m) a
       says a p good = understood .asked s (nodeOf m) a .1 (p, good)
@@ -151,7 +149,7 @@ module _ (m : Meter) (buffer : List ℕ) (place : ℕ) where
           by-room (blockOf m) (λ room. (2, rows.print s e x room)) (λ cramped. (9, rows.print-cramped s e x cramped))
       asked-covers (Reset r) p = (0, rows.reset s r e (says (Reset r) p (λ k. let z : _≡_ {A = ℕ} 0 1 = cc in omega arith)))
       asked-covers (Write r z) p =
-          written-covers r z (says (Write r z) p (λ k. let z : _≡_ {A = ℕ} 0 1 = cc in omega arith)) (numberIn r z) (shut (m .instrument .outputs .mode) r) refl refl
+          written-covers r z (says (Write r z) p (λ k. let z : _≡_ {A = ℕ} 0 1 = cc in omega arith)) (shut (m .instrument .outputs .mode) r) refl
       asked-covers (Status v) p = (0, rows.status s v e (says (Status v) p (λ k. let z : _≡_ {A = ℕ} 0 1 = cc in omega arith)))
       asked-covers BadForm p = let f = understood .bad-form s (nodeOf m) .0 p in (4, rows.bad-form s e (f .0) (f .1))
 

@@ -2,7 +2,7 @@
 use mathlib.Core.Path.{_≡_, refl, ap, _∙_}
 use mathlib.Core.Bool.{true}
 use mathlib.Core.List.{List, []}
-use mathlib.Core.Logic.{_≢_}
+use mathlib.Core.Logic.{_≢_, ⊎-elim}
 use Prim.Native.Nat.{ℕ}
 use native.Mathlib.Omega.{arith}
 use lib.IntN.{ℤ}
@@ -37,7 +37,7 @@ verdict-fine c (Broken rule) = same [] 0 (Refused rule) _ (λ q. omega arith)
 kind-fine : (m n : Meter) (d : List ℕ) (place : ℕ) (k : Kind) → Buffer d place (byKind m n d place k)
 kind-fine m n d place Part = same d place Stored _ (λ q. omega arith)
 kind-fine m n d place Drop = same d place Dropped _ (λ q. omega arith)
-kind-fine m n d place End = settled-fine d place n (λ r. omega arith) (end-upon m)
+kind-fine m n d place End = settled-fine d place n (⊎-elim (λ h. omega arith) (λ e. omega arith)) (end-upon m)
 
 -- at every door, what is carried out and what is answered by 12
 pub buffer-fine : (k : Call) → Buffer (lent k) (placeOf k) (result k)

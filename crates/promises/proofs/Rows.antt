@@ -12,7 +12,7 @@ use Rattle.exact.specs.Sign.{eqZ}
 use Rattle.exact.proofs.Z.{eqZ-false}
 use Rattle.answer.specs.Answer as answers
 use Rattle.answer.specs.declared.Answer.{Answer}
-use Rattle.answer.specs.declared.Answer.the-variants.{Done, Stored, Replied, OtherNode, BadForm, Dropped, TooLong, OutOfRange, InAutomatic, NoRoom, UnknownKey, Refused, NotStarted}
+use Rattle.answer.specs.declared.Answer.the-variants.{Done, Stored, Replied, OtherNode, BadForm, Dropped, TooLong, InAutomatic, NoRoom, UnknownKey, Refused, NotStarted}
 use Rattle.config.specs.declared.Config.{Config}
 use Rattle.receiver.specs.Receiver.{Heard, bytes, too-long, limit, kind, heard}
 use Rattle.receiver.specs.declared.Kind.the-variants.{End, Drop, Part}
@@ -23,13 +23,12 @@ use Rattle.form.specs.Grammar.{Says}
 use Rattle.form.proofs.Meaning.{says-parse, for-parse}
 use Rattle.form.proofs.Understood.{understood}
 use Rattle.line.specs.Buffer.{laid}
-use Rattle.instrument.proofs.Permits.{judged}
 use Rattle.effect.specs.Effect.{Effect, replies, settle, carried}
 use Rattle.meter.specs.Door.{sound, works, reachOf}
 use Rattle.meter.specs.Meter.{Step, step, withInstrument, settledIn, received}
 use Rattle.meter.specs.declared.Meter.{Meter}
 use Rattle.promises.specs.Calls.{Call, power-up, sample, key, byte, result, left}
-use Rattle.promises.specs.Rows.{Gives, Ends, GoesOn, nodeOf, Room, Cramped, emptied, lineOf, blockOf, Row0, Row1, Row2, Row3, Row4, Row5, Row6, Row7, Row8, Row9, Row10, Row12, EventRows, PowerUpRows}
+use Rattle.promises.specs.Rows.{Gives, Ends, GoesOn, nodeOf, Room, Cramped, emptied, lineOf, blockOf, Row0, Row1, Row2, Row3, Row4, Row5, Row6, Row8, Row9, Row10, Row12, EventRows, PowerUpRows}
 use Rattle.promises.specs.Started.{Shut}
 use Rattle.promises.proofs.Door.{shuts, stands-shut, keyed-in, received-as, endedAs, at-end}
 use Rattle.promises.proofs.Settling.{with-room, without-room}
@@ -90,8 +89,7 @@ module _ (m : Meter) (buffer : List ℕ) (place : ℕ) where
         alarms-key = λ ok. gives (key m (pos 5) buffer place) Done _ _ (keyed-in m buffer place (pos 5) ok);
         reset = λ b r s e x. gives (byte m b buffer place) Done _ _ (obeys b s (Reset r) e x);
         write =
-            λ b r z s e x inside allowed.
-            gives (byte m b buffer place) Done _ _ (obeys b s (Write r z) e x ∙ rw (judged (m .instrument .outputs .mode) r z .allows inside allowed));
+            λ b r z s e x free. gives (byte m b buffer place) Done _ _ (obeys b s (Write r z) e x ∙ rw free);
         status = λ b v s e x. gives (byte m b buffer place) Done _ _ (obeys b s (Status v) e x);
       }
 
@@ -131,13 +129,8 @@ module _ (m : Meter) (buffer : List ℕ) (place : ℕ) where
   row-6 : Row6 m buffer place
   row-6 b ok end long = gives (byte m b buffer place) TooLong _ _ (ends b too-long ok end long)
 
-  row-7 : Row7 m buffer place
-  row-7 b r z s e x outside =
-      gives (byte m b buffer place) OutOfRange _ _ (obeys b s (Write r z) e x ∙ rw (judged (m .instrument .outputs .mode) r z .out outside))
-
   row-8 : Row8 m buffer place
-  row-8 b r z s e x inside closed =
-      gives (byte m b buffer place) InAutomatic _ _ (obeys b s (Write r z) e x ∙ rw (judged (m .instrument .outputs .mode) r z .shuts inside closed))
+  row-8 b r z s e x closed = gives (byte m b buffer place) InAutomatic _ _ (obeys b s (Write r z) e x ∙ rw closed)
 
   row-9 : Row9 m buffer place
   row-9 =
@@ -180,7 +173,6 @@ module _ (m : Meter) (buffer : List ℕ) (place : ℕ) where
         row-4 = row-4;
         row-5 = row-5;
         row-6 = row-6;
-        row-7 = row-7;
         row-8 = row-8;
         row-9 = row-9;
         row-10 = row-10;

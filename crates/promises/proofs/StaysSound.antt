@@ -50,7 +50,7 @@ changed-sound : {w : Working} {i : Instrument} → instruments.sound w i ≡ tru
 changed-sound {w} {i} h _ by-batch = soundness.batched-stays w i h
 changed-sound {w} {i} h _ (by-reset r top) = soundness.reset-register-stays w i h r top
 changed-sound {w} {i} h _ by-alarms = soundness.reset-alarms-stays w i h
-changed-sound {w} {i} h _ (by-write r z top allowed) = soundness.write-register-stays w i h r z top allowed
+changed-sound {w} {i} h _ (by-write r z low top held) = soundness.write-register-stays w i h r z low top held
 changed-sound {w} {i} h _ (by-status b) = soundness.write-status-stays w i h b
 
 -- ---- an event leaves a sound meter

@@ -48,9 +48,9 @@ answered k = number (result k .outcome .answer)
 abbrev pub left : Call → Meter
 left k = result k .outcome .meter
 
--- which numbers a call can answer with: power-up 0 and 11, a sample 0 and 12, a key 0, 2, 9, 10 and 12, a byte 0 to 9 and 12
+-- which numbers a call can answer with: power-up 0 and 11, a sample 0 and 12, a key 0, 2, 9, 10 and 12, a byte 0 to 6, 8, 9 and 12
 abbrev pub possible : Call → ℕ → Bool
 possible (power-up c) n = eqb n 0 || eqb n 11
 possible (sample m x) n = eqb n 0 || eqb n 12
 possible (key m k buffer place) n = eqb n 0 || eqb n 2 || eqb n 9 || eqb n 10 || eqb n 12
-possible (byte m b buffer place) n = leb n 9 || eqb n 12
+possible (byte m b buffer place) n = leb n 6 || eqb n 8 || eqb n 9 || eqb n 12

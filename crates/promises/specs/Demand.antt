@@ -2,6 +2,7 @@
 use mathlib.Core.Path.{_≡_}
 use mathlib.Core.Bool.{true}
 use mathlib.Core.List.{List}
+use mathlib.Core.Logic.{_≢_}
 use Prim.Native.Nat.{ℕ}
 use Rattle.config.specs.declared.Config.{Config}
 use Rattle.meter.specs.Meter.{Step}
@@ -17,6 +18,8 @@ pub record Demand1 : Type 0 where
   pub one-outcome : (k : Call) (s t : Step) → Allows k s → Allows k t → s ≡ t
   -- each call gives one of its answers, and no other
   pub numbered : (k : Call) → possible k (answered k) ≡ true
+  -- 7, by which a number outside its range was refused, is withdrawn
+  pub never-7 : (k : Call) → answered k ≢ 7
   -- the table of answers, row by row
   pub power-up-rows : (c : Config) → PowerUpRows c
   pub event-rows : (m : Meter) (buffer : List ℕ) (place : ℕ) → EventRows m buffer place

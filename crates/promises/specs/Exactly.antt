@@ -15,7 +15,7 @@ use Rattle.receiver.specs.declared.Kind.the-variants.{End, Drop, Part}
 use Rattle.command.specs.declared.Asked.the-variants.{Read, Print, Reset, Write, Status}
 use Rattle.form.specs.Grammar.{For, Says, NoDigit}
 use Rattle.form.specs.Understood.{Silent}
-use Rattle.instrument.specs.Meaning.{numberIn, shut}
+use Rattle.instrument.specs.Instrument.{shut}
 use Rattle.meter.specs.Door.{started, sound, reachOf, door}
 use Rattle.meter.specs.declared.Meter.{Meter}
 use Rattle.promises.specs.Calls.{Call, power-up, sample, key, byte, answered}
@@ -43,7 +43,7 @@ pub data OfKey (m : Meter) (buffer : List ℕ) (place : ℕ) : ℤ → ℕ → T
   cramped-key : sound m ≡ true → Cramped (blockOf m) buffer place → OfKey m buffer place (pos 6) 9
   unknown : (k : ℤ) → sound m ≡ true → ((n : ℕ) → 1 ≤ n → n ≤ 6 → k ≢ pos n) → OfKey m buffer place k 10
 
--- a string's end is judged in the order 6, address, 4, 7, 8, 9: a condition names none of those behind it, so it holds whatever they say
+-- a string's end is judged in the order 6, address, 4, 8, 9: a condition names none of those behind it, so it holds whatever they say
 pub data OfByte (m : Meter) (b : ℕ) (buffer : List ℕ) (place : ℕ) : ℕ → Type 0 where
   not-received : door (reachOf (kind b)) m ≡ false → OfByte m b buffer place 12
   stored : started m ≡ true → kind b ≡ Part → OfByte m b buffer place 1
@@ -54,12 +54,9 @@ pub data OfByte (m : Meter) (b : ℕ) (buffer : List ℕ) (place : ℕ) : ℕ �
   other-node : (s : List ℕ) (n : ℕ) → Ends m b s → For s n → n ≢ nodeOf m → OfByte m b buffer place 3
   -- the string is for this node, and asks nothing of it
   bad-form : (s : List ℕ) → Ends m b s → For s (nodeOf m) → Silent s (nodeOf m) → OfByte m b buffer place 4
-  -- V: its range, then the mode
-  out-of-range : (s : List ℕ) (r : ℕ) (z : ℤ) → Ends m b s → Says s (nodeOf m) (Write r z) → numberIn r z ≡ false → OfByte m b buffer place 7
-  in-automatic : (s : List ℕ) (r : ℕ) (z : ℤ) → Ends m b s → Says s (nodeOf m) (Write r z)
-      → numberIn r z ≡ true → shut (m .instrument .outputs .mode) r ≡ true → OfByte m b buffer place 8
-  written : (s : List ℕ) (r : ℕ) (z : ℤ) → Ends m b s → Says s (nodeOf m) (Write r z)
-      → numberIn r z ≡ true → shut (m .instrument .outputs .mode) r ≡ false → OfByte m b buffer place 0
+  -- V of a number, which says the number that is written, held to its limits or not: whether its register is shut
+  in-automatic : (s : List ℕ) (r : ℕ) (z : ℤ) → Ends m b s → Says s (nodeOf m) (Write r z) → shut (m .instrument .outputs .mode) r ≡ true → OfByte m b buffer place 8
+  written : (s : List ℕ) (r : ℕ) (z : ℤ) → Ends m b s → Says s (nodeOf m) (Write r z) → shut (m .instrument .outputs .mode) r ≡ false → OfByte m b buffer place 0
   status : (s : List ℕ) (v : ℕ) → Ends m b s → Says s (nodeOf m) (Status v) → OfByte m b buffer place 0
   -- R
   reset : (s : List ℕ) (r : ℕ) → Ends m b s → Says s (nodeOf m) (Reset r) → OfByte m b buffer place 0

@@ -19,7 +19,7 @@ use Rattle.form.specs.Grammar.{For, Says, NoDigit}
 use Rattle.form.specs.Understood.{Silent}
 use Rattle.line.specs.Buffer.{laid}
 use Rattle.instrument.specs.Instrument as instruments
-use Rattle.instrument.specs.Meaning.{numberIn, shut}
+use Rattle.instrument.specs.Instrument.{shut}
 use Rattle.instrument.specs.declared.Instrument.{Instrument}
 use Rattle.effect.specs.Reply.{readReply, printReply}
 use Rattle.meter.specs.Door.{started, sound, reachOf, door}
@@ -95,7 +95,7 @@ module _ (m : Meter) (buffer : List ℕ) (place : ℕ) where
     pub alarms-key : sound m ≡ true → Gives (key m (pos 5) buffer place) 0 0 (withInstrument m (instruments.resetAlarms (m .config .working) (m .instrument))) buffer
     pub reset : (b r : ℕ) (s : List ℕ) → Ends m b s → Says s (nodeOf m) (Reset r)
         → Gives (byte m b buffer place) 0 0 (changed m (resetBy m r)) buffer
-    pub write : (b r : ℕ) (z : ℤ) (s : List ℕ) → Ends m b s → Says s (nodeOf m) (Write r z) → numberIn r z ≡ true → shut (m .instrument .outputs .mode) r ≡ false
+    pub write : (b r : ℕ) (z : ℤ) (s : List ℕ) → Ends m b s → Says s (nodeOf m) (Write r z) → shut (m .instrument .outputs .mode) r ≡ false
         → Gives (byte m b buffer place) 0 0 (changed m (instruments.writeRegister (m .config .working) (m .instrument) r z)) buffer
     pub status : (b v : ℕ) (s : List ℕ) → Ends m b s → Says s (nodeOf m) (Status v)
         → Gives (byte m b buffer place) 0 0 (changed m (instruments.writeStatus (m .config .working) (m .instrument) v)) buffer
@@ -138,16 +138,10 @@ module _ (m : Meter) (buffer : List ℕ) (place : ℕ) where
       (b : ℕ) → sound m ≡ true → receivers.kind b ≡ End → receivers.heard (m .receiver) ≡ too-long
       → Gives (byte m b buffer place) 6 0 (emptied m) buffer
 
-  -- 7: the written number is outside its range
-  abbrev pub Row7 : Type 0
-  Row7 =
-      (b r : ℕ) (z : ℤ) (s : List ℕ) → Ends m b s → Says s (nodeOf m) (Write r z) → numberIn r z ≡ false
-      → Gives (byte m b buffer place) 7 0 (emptied m) buffer
-
-  -- 8: the analog register is written in automatic mode, with a number in its range
+  -- 8: the analog register is written in automatic mode, whatever the number
   abbrev pub Row8 : Type 0
   Row8 =
-      (b r : ℕ) (z : ℤ) (s : List ℕ) → Ends m b s → Says s (nodeOf m) (Write r z) → numberIn r z ≡ true → shut (m .instrument .outputs .mode) r ≡ true
+      (b r : ℕ) (z : ℤ) (s : List ℕ) → Ends m b s → Says s (nodeOf m) (Write r z) → shut (m .instrument .outputs .mode) r ≡ true
       → Gives (byte m b buffer place) 8 0 (emptied m) buffer
 
   -- 9: the reply has no room. The receiver is emptied where a string asked for it; the buffer is as it was
@@ -177,7 +171,6 @@ module _ (m : Meter) (buffer : List ℕ) (place : ℕ) where
     pub row-4 : Row4
     pub row-5 : Row5
     pub row-6 : Row6
-    pub row-7 : Row7
     pub row-8 : Row8
     pub row-9 : Row9
     pub row-10 : Row10

@@ -8,12 +8,18 @@ use Prim.Native.Char.{Char}
 use native.Mathlib.Omega.{arith}
 use native.Mathlib.Nat.{le-of-suc-le-suc, not-suc-le-zero}
 use lib.Dec.{eqb}
-use lib.ListN.{length, getD}
+use lib.ListN.{length, getD, List·getD-map}
+use lib.IntN.{pos}
+use lib.Signed.{leZ}
 use borrow.Author.Tests.{eqb-true, eq-eqb}
 use Rattle.register.specs.Bytes.{byte, ascii, within}
-use Rattle.register.specs.declared.Register.{Register}
-use Rattle.register.specs.Registers.{registers, noRegister, entry, count, placeIn, index, at}
+use Rattle.register.specs.declared.Limits.{Limits}
+use Rattle.register.specs.declared.Writes.{Writes}
+use Rattle.register.specs.declared.Writes.the-variants.{Nothing, Number, Byte}
+use Rattle.register.specs.Registers.{Listed, registers, noRegister, entry, count, placeIn, index, at}
+use Rattle.exact.specs.Sign.{minus}
 use Rattle.exact.proofs.Z.{never, both}
+use Rattle.register.proofs.Ranges.{range}
 
 -- a test of each entry of a table with its place, and what it says of one entry
 abbrev placed : {A : Type 0} → (ℕ → A → Bool) → ℕ → List A → Bool
@@ -43,40 +49,99 @@ alike-eq false false t = refl
 
 -- ── letters, widths of mnemonics, and which command takes which register ──
 
--- the letters stand in order from A, a mnemonic has three bytes, T takes A to J, V takes E to J, R takes B to H
-abbrev rule : ℕ → Register → Bool
+-- the letters stand in order from A, a mnemonic has three bytes, T takes A to J, R takes B to H
+abbrev rule : ℕ → Listed → Bool
 rule i x =
     eqb (x .letter) (byte "A" + i)
     && (eqb (length (x .mnemonic)) 3
     && (alike (x .read) (within (byte "A") (byte "J") (x .letter))
-    && (alike (x .written) (within (byte "E") (byte "J") (x .letter))
-    && alike (x .reset) (within (byte "B") (byte "H") (x .letter)))))
+    && alike (x .reset) (within (byte "B") (byte "H") (x .letter))))
+
+-- V writes a number of -19,999 to 99,999 to E to H, one of 0 to 4,095 to I, and a byte to J
+abbrev display : Limits
+display = record { low = minus 19_999; high = pos 99_999 }
+
+abbrev analog : Limits
+analog = record { low = pos 0; high = pos 4_095 }
+
+abbrev pub writtenTo : ℕ → Writes
+writtenTo letter =
+    cond (within (byte "E") (byte "H") letter) (Number display)
+    (cond (eqb letter (byte "I")) (Number analog)
+    (cond (eqb letter (byte "J")) Byte
+    Nothing))
 
 -- what the rule says of the register at place i
-pub record Ruled (i : ℕ) (x : Register) : Type 0 where
+pub record Ruled (i : ℕ) (x : Listed) : Type 0 where
   pub letter : x .letter ≡ byte "A" + i
   pub mnemonic : length (x .mnemonic) ≡ 3
   pub read : x .read ≡ within (byte "A") (byte "J") (x .letter)
-  pub written : x .written ≡ within (byte "E") (byte "J") (x .letter)
+  pub written : x .written ≡ writtenTo (x .letter)
   pub reset : x .reset ≡ within (byte "B") (byte "H") (x .letter)
 
-ruled-by : (i : ℕ) (x : Register) → rule i x ≡ true → Ruled i x
-ruled-by i x t =
+ruled-by : (i : ℕ) (x : Listed) → rule i x ≡ true → x .written ≡ writtenTo (x .letter) → Ruled i x
+ruled-by i x t w =
     let p = both _ _ t in
     let q = both _ _ (p .1) in
     let r = both _ _ (q .1) in
-    let s = both _ _ (r .1) in
     record {
       letter = eqb-true (x .letter) (byte "A" + i) (p .0);
       mnemonic = eqb-true (length (x .mnemonic)) 3 (q .0);
       read = alike-eq (x .read) (within (byte "A") (byte "J") (x .letter)) (r .0);
-      written = alike-eq (x .written) (within (byte "E") (byte "J") (x .letter)) (s .0);
-      reset = alike-eq (x .reset) (within (byte "B") (byte "H") (x .letter)) (s .1);
+      written = w;
+      reset = alike-eq (x .reset) (within (byte "B") (byte "H") (x .letter)) (r .1);
     }
+
+-- what V writes, computed of the whole list, and of one register
+written-each : map (λ (x : Listed). x .written) registers ≡ map (λ (x : Listed). writtenTo (x .letter)) registers
+written-each = refl
+
+written-here : (i : ℕ) → getD registers i noRegister .written ≡ writtenTo (getD registers i noRegister .letter)
+written-here i =
+    sym (List·getD-map (λ (x : Listed). x .written) registers i noRegister)
+    ∙ ap (λ (l : List Writes). getD l i Nothing) written-each
+    ∙ List·getD-map (λ (x : Listed). writtenTo (x .letter)) registers i noRegister
 
 pub ruled : (i : ℕ) → i < count → Ruled i (entry i)
 unfolding entry
-ruled i h = ruled-by i (getD registers i noRegister) (placed-here rule registers noRegister refl i h)
+ruled i h = ruled-by i (getD registers i noRegister) (placed-here rule registers noRegister refl i h) (written-here i)
+
+-- a register that V writes a number to: one of E to I, and its limits leave a number to write
+pub record Numbered (letter : ℕ) (l : Limits) : Type 0 where
+  pub from-e : byte "E" ≤ letter
+  pub to-i : letter ≤ byte "I"
+  pub limits : leZ (l .low) (l .high) ≡ true
+
+numbered-by : (letter : ℕ) (l : Limits) (t u v : Bool) → within (byte "E") (byte "H") letter ≡ t → eqb letter (byte "I") ≡ u
+    → cond t (Number display) (cond u (Number analog) (cond v Byte Nothing)) ≡ Number l
+    → Numbered letter l
+numbered-by letter l true u v e f k =
+    let r = range (byte "E") (byte "H") letter e in
+    let o : l ≡ display = cc in
+    record { from-e = omega arith; to-i = omega arith; limits = rw o }
+numbered-by letter l false true v e f k =
+    let r = eqb-true letter (byte "I") f in
+    let o : l ≡ analog = cc in
+    record { from-e = omega arith; to-i = omega arith; limits = rw o }
+numbered-by letter l false false true e f k = let z : _≡_ {A = ℕ} 0 1 = cc in absurd (omega arith)
+numbered-by letter l false false false e f k = let z : _≡_ {A = ℕ} 0 1 = cc in absurd (omega arith)
+
+pub numbered : (i : ℕ) (l : Limits) → i < count → entry i .written ≡ Number l → Numbered (entry i .letter) l
+numbered i l h e =
+    numbered-by (entry i .letter) l (within (byte "E") (byte "H") (entry i .letter)) (eqb (entry i .letter) (byte "I")) (eqb (entry i .letter) (byte "J")) refl refl
+    (sym (ruled i h .written) ∙ e)
+
+-- and the register that V writes a byte to is J
+byte-by : (letter : ℕ) (t u v : Bool) → eqb letter (byte "J") ≡ v → cond t (Number display) (cond u (Number analog) (cond v Byte Nothing)) ≡ Byte → letter ≡ byte "J"
+byte-by letter true u v e k = let z : _≡_ {A = ℕ} 0 1 = cc in absurd (omega arith)
+byte-by letter false true v e k = let z : _≡_ {A = ℕ} 0 1 = cc in absurd (omega arith)
+byte-by letter false false true e k = eqb-true letter (byte "J") e
+byte-by letter false false false e k = let z : _≡_ {A = ℕ} 0 1 = cc in absurd (omega arith)
+
+pub byte-at : (i : ℕ) → i < count → entry i .written ≡ Byte → entry i .letter ≡ byte "J"
+byte-at i h e =
+    byte-by (entry i .letter) (within (byte "E") (byte "H") (entry i .letter)) (eqb (entry i .letter) (byte "I")) (eqb (entry i .letter) (byte "J")) refl
+    (sym (ruled i h .written) ∙ e)
 
 -- ── no two mnemonics are alike ──
 
@@ -86,7 +151,7 @@ spelled [] = 0
 spelled (b ∷ s) = b + 256 * spelled s
 
 -- two registers at different places are spelled apart
-abbrev apart : ℕ → Register → ℕ → Register → Bool
+abbrev apart : ℕ → Listed → ℕ → Listed → Bool
 apart i x j y = eqb i j || not (eqb (spelled (x .mnemonic)) (spelled (y .mnemonic)))
 
 apart-eq : (i j m n : ℕ) (t : Bool) → eqb i j ≡ t → (t || not (eqb m n)) ≡ true → m ≡ n → i ≡ j
@@ -98,7 +163,7 @@ unfolding entry
 mnemonics-differ i j h k e =
     let x = getD registers i noRegister in
     let y = getD registers j noRegister in
-    let row : placed (apart i x) 0 registers ≡ true = placed-here (λ a (z : Register). placed (apart a z) 0 registers) registers noRegister refl i h in
+    let row : placed (apart i x) 0 registers ≡ true = placed-here (λ a (z : Listed). placed (apart a z) 0 registers) registers noRegister refl i h in
     apart-eq i j (spelled (x .mnemonic)) (spelled (y .mnemonic)) (eqb i j) refl
     (placed-here (apart i x) registers noRegister row j k)
     (ap spelled e)
@@ -106,7 +171,7 @@ mnemonics-differ i j h k e =
 -- ── letters and places ──
 
 -- the search finds each letter of the list at its own place
-abbrev found-here : ℕ → Register → Bool
+abbrev found-here : ℕ → Listed → Bool
 found-here i x = eqb (index (x .letter)) i
 
 pub letter-index : (i : ℕ) → i < count → index (entry i .letter) ≡ i
@@ -114,15 +179,15 @@ unfolding index entry
 letter-index i h = eqb-true _ _ (placed-here found-here registers noRegister refl i h)
 
 -- and a byte either nowhere or at a register with that letter, whatever the list
-abbrev Sought : List Register → Register → ℕ → ℕ → Type 0
+abbrev Sought : List Listed → Listed → ℕ → ℕ → Type 0
 Sought rs d b i = (i ≡ length rs) ⊎ ((i < length rs) × (getD rs i d .letter ≡ b))
 
-sought-by : (r : Register) (rs : List Register) (d : Register) (b : ℕ) (t : Bool) → eqb b (r .letter) ≡ t → Sought rs d b (placeIn rs b) → Sought (r ∷ rs) d b (cond t 0 (suc (placeIn rs b)))
+sought-by : (r : Listed) (rs : List Listed) (d : Listed) (b : ℕ) (t : Bool) → eqb b (r .letter) ≡ t → Sought rs d b (placeIn rs b) → Sought (r ∷ rs) d b (cond t 0 (suc (placeIn rs b)))
 sought-by r rs d b true e found = inr (omega arith, sym (eqb-true b (r .letter) e))
 sought-by r rs d b false e (inl none) = inl (ap suc none)
 sought-by r rs d b false e (inr some) = inr (omega arith, some .1)
 
-sought : (rs : List Register) (d : Register) (b : ℕ) → Sought rs d b (placeIn rs b)
+sought : (rs : List Listed) (d : Listed) (b : ℕ) → Sought rs d b (placeIn rs b)
 sought [] d b = inl refl
 sought (r ∷ rs) d b = sought-by r rs d b (eqb b (r .letter)) refl (sought rs d b)
 

@@ -1,13 +1,26 @@
-// The registers: letter, mnemonic and permitted commands, one constant table; and what a block print may choose of them.
+// The registers: letter, mnemonic, permitted commands and limits, one constant table; and what a block print may choose of them.
 ghost use mathlib.Core.Path.{_≡_};
-ghost use Rattle.register.specs.Registers.{entry, index};
+ghost use Rattle.register.specs.Registers.{registerOf, entry, index};
 
-// A register: its letter, its mnemonic, and whether T reads it, V writes it and R resets it.
+// The numbers that a register holds: from the low one to the high one, both among them.
+pub struct Limits {
+    pub low: i32,
+    pub high: i32,
+}
+
+// What V writes to a register: nothing, a number held to limits, or one byte.
+pub enum Writes {
+    Nothing,
+    Number(Limits),
+    Byte,
+}
+
+// A register: its letter, its mnemonic, and whether T reads it and R resets it. What V writes is a column of its own, since the table is
+// laid out anew wherever it is asked, and a reply line asks for a mnemonic alone.
 pub struct Register {
     pub letter: u8,
     pub mnemonic: [u8; 3],
     pub read: bool,
-    pub written: bool,
     pub reset: bool,
 }
 
@@ -48,77 +61,89 @@ const REGISTERS: [Register; COUNT] = [
         letter: b'A',
         mnemonic: *b"INP",
         read: true,
-        written: false,
         reset: false,
     },
     Register {
         letter: b'B',
         mnemonic: *b"TOT",
         read: true,
-        written: false,
         reset: true,
     },
     Register {
         letter: b'C',
         mnemonic: *b"MAX",
         read: true,
-        written: false,
         reset: true,
     },
     Register {
         letter: b'D',
         mnemonic: *b"MIN",
         read: true,
-        written: false,
         reset: true,
     },
     Register {
         letter: b'E',
         mnemonic: *b"SP1",
         read: true,
-        written: true,
         reset: true,
     },
     Register {
         letter: b'F',
         mnemonic: *b"SP2",
         read: true,
-        written: true,
         reset: true,
     },
     Register {
         letter: b'G',
         mnemonic: *b"SP3",
         read: true,
-        written: true,
         reset: true,
     },
     Register {
         letter: b'H',
         mnemonic: *b"SP4",
         read: true,
-        written: true,
         reset: true,
     },
     Register {
         letter: b'I',
         mnemonic: *b"AOR",
         read: true,
-        written: true,
         reset: false,
     },
     Register {
         letter: b'J',
         mnemonic: *b"CSR",
         read: true,
-        written: true,
         reset: false,
     },
 ];
 
+// What V writes to a setpoint, and to the analog register.
+const SETPOINT: Writes = Writes::Number(Limits {
+    low: -19999,
+    high: 99999,
+});
+
+const CODE: Writes = Writes::Number(Limits { low: 0, high: 4095 });
+
+// What V writes to each register of the table.
+const WRITTEN: [Writes; COUNT] = [
+    Writes::Nothing,
+    Writes::Nothing,
+    Writes::Nothing,
+    Writes::Nothing,
+    SETPOINT,
+    SETPOINT,
+    SETPOINT,
+    SETPOINT,
+    CODE,
+    Writes::Byte,
+];
+
 // The register at a place of the table; past its end one that no command takes.
 pub fn register_at(index: usize) -> Register
-    ensures { λ r. ⌜ r ≡ entry index ⌝ }
+    ensures { λ r. ⌜ r ≡ registerOf (entry index) ⌝ }
 {
     if index < COUNT {
         return REGISTERS[index];
@@ -127,9 +152,18 @@ pub fn register_at(index: usize) -> Register
         letter: 0,
         mnemonic: [0, 0, 0],
         read: false,
-        written: false,
         reset: false,
     }
+}
+
+// What V writes to the register at a place of the table; past its end nothing.
+pub fn written_at(index: usize) -> Writes
+    ensures { λ r. ⌜ r ≡ entry index .written ⌝ }
+{
+    if COUNT <= index {
+        return Writes::Nothing;
+    }
+    WRITTEN[index]
 }
 
 // The place of a letter in the table, and past its end for any other byte.

@@ -131,9 +131,9 @@ cases =
     -- `N17VE350$`: node 17 sets SP1 to 350; node 5 answers 3, and its SP1 stays
     ∷ record { config = node 17; acts = string "N17VE350$" ∷ []; answer = 0; shown = SP1 (n 350) ∷ [] }
     ∷ record { config = node 5; acts = string "N17VE350$" ∷ []; answer = 3; shown = SP1 (n 100) ∷ [] }
-    -- node 0: `VE123456*` sets 23,456; `VE-120000*` answers 7, and SP1 stays
+    -- node 0: `VE123456*` sets 23,456; `VE-120000*` is -20,000, past the limit, and sets -19,999, which document 02 puts for the sheet's 7
     ∷ record { config = node 0; acts = string "VE123456*" ∷ []; answer = 0; shown = SP1 (n 23456) ∷ [] }
-    ∷ record { config = node 0; acts = string "VE-120000*" ∷ []; answer = 7; shown = SP1 (n 100) ∷ [] }
+    ∷ record { config = node 0; acts = string "VE-120000*" ∷ []; answer = 0; shown = SP1 (Number (minus 19999)) ∷ [] }
     -- VE with 30 digits is judged, and the last five are written; with 31 answers 6, and SP1 stays
     ∷ record { config = node 0; acts = string "VE123456789012345678901234567890*" ∷ []; answer = 0; shown = SP1 (n 67890) ∷ [] }
     ∷ record { config = node 0; acts = string "VE1234567890123456789012345678901*" ∷ []; answer = 6; shown = SP1 (n 100) ∷ [] }

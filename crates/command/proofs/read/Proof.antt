@@ -1,7 +1,7 @@
 -- `command::read` meets its contract: the list says whether T takes the register. Assumes nothing.
 use borrow.Author.Needs.{needs}
-use mathlib.Core.Path.{_≡_}
-use mathlib.Core.Bool.{true, false}
+use mathlib.Core.Path.{sym, ap, _∙_}
+use Rattle.register.specs.declared.Register.{Register}
 use Rattle.command.specs.Parse.{reading}
 use Rattle.command.proofs.read.Statement.{statement}
 use Rattle.command.proofs.read.Tie as tie
@@ -15,14 +15,12 @@ register-at-requires c κs = search needs
 returns : tie.Need-returns
 unfolding reading
 returns c =
-    let t : c .before .register-at .result .read ≡ true = c .if1 .taken in
-    rw (← c .before .before .sole-register .ensures, ← c .before .register-at .ensures, t)
+    rw (← c .before .before .sole-register .ensures, sym (ap (λ (x : Register). x .read) (c .before .register-at .ensures)) ∙ c .if1 .taken)
 
 returns-2 : tie.Need-returns-2
 unfolding reading
 returns-2 c =
-    let t : c .before .register-at .result .read ≡ false = c .if1 .left in
-    rw (← c .before .before .sole-register .ensures, ← c .before .register-at .ensures, t)
+    rw (← c .before .before .sole-register .ensures, sym (ap (λ (x : Register). x .read) (c .before .register-at .ensures)) ∙ c .if1 .left)
 
 pub read-spec : {M : Type 1} → statement M
 read-spec = tie.close (tie.spec sole-register-requires register-at-requires returns returns-2)

@@ -1,7 +1,6 @@
--- `command::write` meets its contract: the list says whether V takes the register. Assumes nothing.
+-- `command::write` meets its contract: the list says what V writes to the register. Assumes nothing.
 use native.Mathlib.Omega.{arith}
-use mathlib.Core.Path.{_≡_, sym, _∙_}
-use mathlib.Core.Bool.{true, false}
+use mathlib.Core.Path.{sym, _∙_}
 use Rattle.command.specs.Parse.{writing}
 use Rattle.number.proofs.Lists.{none, split}
 use borrow.Author.Needs.{needs}
@@ -18,8 +17,8 @@ shared-slice-read-index-of c = search needs
 index-of-requires : tie.Need-index-of-requires
 index-of-requires c κs = search needs
 
-register-at-requires : tie.Need-register-at-requires
-register-at-requires c κs = search needs
+written-at-requires : tie.Need-written-at-requires
+written-at-requires c κs = search needs
 
 sub-data-of : tie.Need-sub-data-of
 sub-data-of c = search needs
@@ -36,18 +35,9 @@ data-of-requires c κs = search needs
 returns-2 : tie.Need-returns-2
 unfolding writing
 returns-2 c =
-    let s = c .before .before .before .before .before .before .before .before .args .s .now in
-    let r = c .before .before .before in
-    let t : r .register-at .result .written ≡ true = c .before .before .if2 .taken in
-    c .data-of .ensures ∙ sym (split writing s (omega arith) ∙ rw (← r .before .index-of .ensures, ← r .register-at .ensures, t))
-
-returns-3 : tie.Need-returns-3
-unfolding writing
-returns-3 c =
-    let s = c .before .before .before .before .before .before .args .s .now in
-    let r = c .before in
-    let t : r .register-at .result .written ≡ false = c .if2 .left in
-    sym (split writing s (omega arith) ∙ rw (← r .before .index-of .ensures, ← r .register-at .ensures, t))
+    let r = c .before .before in
+    let s = r .before .before .before .before .before .args .s .now in
+    c .data-of .ensures ∙ sym (split writing s (omega arith) ∙ rw (← r .before .index-of .ensures, ← r .written-at .ensures))
 
 pub write-spec : {M : Type 1} → statement M
 write-spec =
@@ -56,10 +46,9 @@ write-spec =
     returns
     shared-slice-read-index-of
     index-of-requires
-    register-at-requires
+    written-at-requires
     sub-data-of
     part-data-of-start
     part-data-of-end
     data-of-requires
-    returns-2
-    returns-3)
+    returns-2)
