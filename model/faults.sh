@@ -30,6 +30,7 @@ alarm-reset-only-when-on | alarms | /pub fn reset/,/^    }/ s/self.run = 0;/if w
 setpoint-unchanged-clears-run | alarms | s/if value != self.setpoint/if true/
 setpoint-new-keeps-run | alarms | /pub fn write_setpoint/,/^    }/ s/self.run = 0;//
 setpoint-new-resets-state | alarms | /pub fn write_setpoint/,/^    }/ s/self.run = 0;/self.reset();/
+lowest-setpoint-keeps-run | alarms | /pub fn write_setpoint/,/^    }/ s/self.run = 0;/if value != -19_999 { self.run = 0; }/
 over-not-above | alarms | /^fn is_above/,/^}/ s/Reading::Over => true/Reading::Over => false/
 under-not-below | alarms | /^fn is_at_or_below/,/^}/ s/Reading::Under => true/Reading::Under => false/
 halves-towards-zero | fraction | s/2 \* left_over >= self.denominator/2 * left_over > self.denominator/
@@ -93,7 +94,19 @@ points-not-ignored | command | s/byte.is_ascii_digit() || \*byte == b'.'/byte.is
 minus-alone-is-0 | command | s/if digits.is_empty()/if digits.is_empty() \&\& !negative/
 minus-forgotten | command | s/if negative { -size }/if negative { size }/
 status-byte-of-8-bits | command | s/if \*byte <= 127 //
-analog-4096-written | command | s/0..=HIGHEST_CODE/0..=HIGHEST_CODE + 1/
+held-before-the-cut | command | s/last_five(&digits)/digits/
+held-before-the-cut-below-0 | command | s/last_five(&digits)/(if negative { \&digits } else { last_five(\&digits) })/
+code-held-before-the-cut | command | s/last_five(&digits)/(if limits == CODE_LIMITS { \&digits } else { last_five(\&digits) })/
+low-number-held-to-the-highest | command | s/HeldTo(limits.lowest)/HeldTo(limits.highest)/
+high-number-held-to-the-lowest | command | s/HeldTo(limits.highest)/HeldTo(limits.lowest)/
+setpoint-held-to-minus-20000 | command | s/lowest: LOWEST_DISPLAY as i128/lowest: LOWEST_DISPLAY as i128 - 1/
+setpoint-minus-20000-written | command | s/if number < limits.lowest {/if number < limits.lowest - i128::from(limits == SETPOINT_LIMITS) {/
+setpoint-99999-held-to-99998 | command | s/highest: HIGHEST_DISPLAY as i128/highest: HIGHEST_DISPLAY as i128 - 1/
+code-held-to-4096 | command | s/highest: HIGHEST_CODE/highest: HIGHEST_CODE + 1/
+code-4096-written | command | s/number > limits.highest/number > limits.highest + 1/
+code-held-to-minus-1 | command | s/lowest: 0,/lowest: -1,/
+code-with-limits-of-setpoints | command | s/number_to_write(data, CODE_LIMITS)/number_to_write(data, SETPOINT_LIMITS)/
+past-a-limit-is-bad-form | command | s/WrittenNumber::Itself(number) | WrittenNumber::HeldTo(number) => Ok(number)/WrittenNumber::Itself(number) => Ok(number), WrittenNumber::HeldTo(_) => Err(Refusal::BadForm)/
 lower-case-command | command | s/Some((b'T', rest))/Some((b'T' | b't', rest))/
 reset-of-input-taken | command | s/b"B" => Ok(Command::ResetTotal)/b"A" | b"B" => Ok(Command::ResetTotal)/
 print-with-register | command | s/if rest.is_empty()/if rest.len() < 2/
@@ -106,7 +119,13 @@ block-in-menu-order | meter | /(settings.print_total, Register::Total),/d; s/(se
 max-never-taken | meter | s/self.max.take_sample(self.reading, capture);//
 analog-follows-in-manual | meter | s/if self.mode == Mode::Automatic {/if true {/
 code-late-on-return | meter | /fn write_control_status/,/^    }/ s/self.work_out_code();//
-analog-judged-before-range | meter | s/match understand(string, self.configuration.node) {/match understand(string, self.configuration.node) { Err(Refusal::OutsideRange) if self.mode == Mode::Automatic \&\& string.windows(2).any(|two| two == b"VI") => Answer::AnalogInAutomatic,/
+held-code-written-in-automatic | meter | s/match understand(string, self.configuration.node) {/use crate::command::*; let data = string.rsplit(u8::is_ascii_uppercase).next().unwrap(); match understand(string, self.configuration.node) { Ok(Command::WriteAnalogOutput(code)) if matches!(written_number(data, CODE_LIMITS), WrittenNumber::HeldTo(_)) => { self.analog_code = code; Answer::CarriedOut }/
+held-code-written-behind-an-8 | meter | s/match understand(string, self.configuration.node) {/use crate::command::*; let data = string.rsplit(u8::is_ascii_uppercase).next().unwrap(); match understand(string, self.configuration.node) { Ok(Command::WriteAnalogOutput(code)) if matches!(written_number(data, CODE_LIMITS), WrittenNumber::HeldTo(_)) => { let answer = self.write_analog_output(code); self.analog_code = code; answer }/
+held-code-bad-form-in-automatic | meter | s/match understand(string, self.configuration.node) {/use crate::command::*; let data = string.rsplit(u8::is_ascii_uppercase).next().unwrap(); match understand(string, self.configuration.node) { Ok(Command::WriteAnalogOutput(_)) if matches!(written_number(data, CODE_LIMITS), WrittenNumber::HeldTo(_)) \&\& self.mode == Mode::Automatic => Answer::BadForm,/
+held-code-not-written | meter | s/match understand(string, self.configuration.node) {/use crate::command::*; let data = string.rsplit(u8::is_ascii_uppercase).next().unwrap(); match understand(string, self.configuration.node) { Ok(Command::WriteAnalogOutput(_)) if matches!(written_number(data, CODE_LIMITS), WrittenNumber::HeldTo(_)) \&\& self.mode != Mode::Automatic => Answer::CarriedOut,/
+held-setpoint-not-written | meter | s/match understand(string, self.configuration.node) {/use crate::command::*; let data = string.rsplit(u8::is_ascii_uppercase).next().unwrap(); match understand(string, self.configuration.node) { Ok(Command::WriteSetpoint(_, _)) if matches!(written_number(data, SETPOINT_LIMITS), WrittenNumber::HeldTo(_)) => Answer::CarriedOut,/
+held-setpoint-clears-run | meter | s/match understand(string, self.configuration.node) {/use crate::command::*; let data = string.rsplit(u8::is_ascii_uppercase).next().unwrap(); match understand(string, self.configuration.node) { Ok(Command::WriteSetpoint(alarm, value)) if matches!(written_number(data, SETPOINT_LIMITS), WrittenNumber::HeldTo(_)) => { self.alarms[alarm].write_setpoint(value + 1); self.alarms[alarm].write_setpoint(value); Answer::CarriedOut }/
+held-setpoint-resets-state | meter | s/match understand(string, self.configuration.node) {/use crate::command::*; let data = string.rsplit(u8::is_ascii_uppercase).next().unwrap(); match understand(string, self.configuration.node) { Ok(Command::WriteSetpoint(alarm, value)) if matches!(written_number(data, SETPOINT_LIMITS), WrittenNumber::HeldTo(_)) \&\& value != self.alarms[alarm].setpoint() => { self.alarms[alarm].write_setpoint(value); self.alarms[alarm].reset(); Answer::CarriedOut }/
 status-resets-bits-of-1 | meter | s/if !bit {/if bit {/
 status-reset-in-manual-too | meter | s/self.mode = Mode::Manual { outputs: bits };/self.mode = Mode::Manual { outputs: bits }; for (alarm, bit) in self.alarms.iter_mut().zip(bits) { if !bit { alarm.reset(); } }/
 status-shows-hidden-alarms | meter | s/Mode::Manual { outputs } => 16 + number_of_bits(outputs)/Mode::Manual { .. } => 16 + number_of_bits([0, 1, 2, 3].map(|index| self.alarms[index].is_on()))/

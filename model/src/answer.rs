@@ -1,4 +1,5 @@
-//! The thirteen answers of document 01's table.
+//! The answers of document 01's table. The number 7 is no answer any more:
+//! document 02, ticket 5 withdraws it, and the others keep their numbers.
 
 use crate::config::Rule;
 
@@ -19,8 +20,6 @@ pub enum Answer {
     LineEndReceived,
     /// 6: the string that ended here had outgrown the receiver.
     StringTooLong,
-    /// 7: the register cannot hold the number.
-    OutsideRange,
     /// 8: the analog code is not the host's to write now.
     AnalogInAutomatic,
     /// 9: the reply does not fit behind the place.
@@ -33,25 +32,24 @@ pub enum Answer {
     NotStarted,
 }
 
-/// A short name for each answer, in the order of their numbers.
-pub const ANSWER_NAMES: [&str; 13] = [
-    "carried out",
-    "byte taken",
-    "reply written",
-    "for another node",
-    "bad form",
-    "CR or LF received",
-    "string too long",
-    "outside its range",
-    "analog in automatic",
-    "no room for reply",
-    "unknown key",
-    "configuration refused",
-    "meter not started",
+/// Each answer's number with a short name.
+pub const ANSWER_NAMES: [(usize, &str); 12] = [
+    (0, "carried out"),
+    (1, "byte taken"),
+    (2, "reply written"),
+    (3, "for another node"),
+    (4, "bad form"),
+    (5, "CR or LF received"),
+    (6, "string too long"),
+    (8, "analog in automatic"),
+    (9, "no room for reply"),
+    (10, "unknown key"),
+    (11, "configuration refused"),
+    (12, "meter not started"),
 ];
 
 impl Answer {
-    /// The first column of the table (The meter's edges).
+    /// The first column of the table (The meter's edges; document 02, ticket 5).
     pub fn number(self) -> usize {
         match self {
             Answer::CarriedOut => 0,
@@ -61,7 +59,6 @@ impl Answer {
             Answer::BadForm => 4,
             Answer::LineEndReceived => 5,
             Answer::StringTooLong => 6,
-            Answer::OutsideRange => 7,
             Answer::AnalogInAutomatic => 8,
             Answer::NoRoom => 9,
             Answer::UnknownKey => 10,

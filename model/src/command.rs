@@ -15,7 +15,8 @@ pub enum Register {
     ControlStatus,
 }
 
-/// A string that is well formed, for this meter, and within its ranges.
+/// A string that is well formed and for this meter. The number that it writes
+/// lies within its register's limits.
 #[derive(Clone, Copy, PartialEq, Eq, Debug)]
 pub enum Command {
     Transmit(Register),
@@ -34,13 +35,43 @@ pub enum Command {
 pub enum Refusal {
     OtherNode,
     BadForm,
-    OutsideRange,
 }
 
-/// Judges a string that the receiver could hold: whom it is for, how it is
-/// built, and what it writes, in this order (The meter's edges, the first
-/// sentence under the table; The register strings, paragraph 1, sentence 1, and
-/// paragraph 2, sentence 4).
+/// The lowest and the highest number that a register holds.
+#[derive(Clone, Copy, PartialEq, Eq, Debug)]
+pub struct Limits {
+    pub lowest: i128,
+    pub highest: i128,
+}
+
+/// A setpoint holds what a display can show (The register strings, paragraph 3,
+/// sentence 2).
+pub const SETPOINT_LIMITS: Limits = Limits {
+    lowest: LOWEST_DISPLAY as i128,
+    highest: HIGHEST_DISPLAY as i128,
+};
+
+/// The analog register holds a code (The register strings, paragraph 3,
+/// sentence 2).
+pub const CODE_LIMITS: Limits = Limits {
+    lowest: 0,
+    highest: HIGHEST_CODE,
+};
+
+/// What the data of a V string comes to as a number.
+#[derive(Clone, Copy, PartialEq, Eq, Debug)]
+pub enum WrittenNumber {
+    BadForm,
+    /// The number itself, which lies within the limits.
+    Itself(i128),
+    /// The limit that stands in for a number past it.
+    HeldTo(i128),
+}
+
+/// Judges a string that the receiver could hold: whom it is for, and then how
+/// it is built. What it writes is no reason to refuse it (The meter's edges, the
+/// first sentence under the table; The register strings, paragraph 1, sentence
+/// 1, and paragraph 2, sentence 4; document 02, ticket 5).
 pub fn understand(string: &[u8], own_node: i32) -> Result<Command, Refusal> {
     let (node, body) = split_address(string)?;
     if node != own_node {
@@ -132,24 +163,24 @@ fn write(rest: &[u8]) -> Result<Command, Refusal> {
     }
 }
 
-/// A setpoint holds what a display can show (The register strings, paragraph 3,
-/// sentence 2).
 fn write_setpoint(alarm: usize, data: &[u8]) -> Result<Command, Refusal> {
-    let number = written_number(data)?;
-    if number < i128::from(LOWEST_DISPLAY) || number > i128::from(HIGHEST_DISPLAY) {
-        return Err(Refusal::OutsideRange);
-    }
+    let number = number_to_write(data, SETPOINT_LIMITS)?;
     Ok(Command::WriteSetpoint(alarm, number))
 }
 
-/// The analog register holds a code (The register strings, paragraph 3,
-/// sentence 2).
 fn write_analog_output(data: &[u8]) -> Result<Command, Refusal> {
-    let number = written_number(data)?;
-    if !(0..=HIGHEST_CODE).contains(&number) {
-        return Err(Refusal::OutsideRange);
-    }
+    let number = number_to_write(data, CODE_LIMITS)?;
     Ok(Command::WriteAnalogOutput(number))
+}
+
+/// The number that the register is to take. A write past a limit sets the limit,
+/// and acts from here on as if the limit itself had been written (document 02,
+/// ticket 5).
+fn number_to_write(data: &[u8], limits: Limits) -> Result<i128, Refusal> {
+    match written_number(data, limits) {
+        WrittenNumber::BadForm => Err(Refusal::BadForm),
+        WrittenNumber::Itself(number) | WrittenNumber::HeldTo(number) => Ok(number),
+    }
 }
 
 /// The status register's data is a single byte without its top bit (The register
@@ -163,8 +194,9 @@ fn write_control_status(data: &[u8]) -> Result<Command, Refusal> {
 
 /// Reads a number as a host writes it. The minus can only lead; points may stand
 /// anywhere behind it and mean nothing; of many digits the hindmost five are
-/// the number (The register strings, paragraph 3, sentence 1).
-fn written_number(data: &[u8]) -> Result<i128, Refusal> {
+/// the number, and only then do the limits hold (The register strings, paragraph
+/// 3, sentences 1 and 2; document 02, ticket 5).
+pub fn written_number(data: &[u8], limits: Limits) -> WrittenNumber {
     let (negative, rest) = match data.split_first() {
         Some((b'-', rest)) => (true, rest),
         _ => (false, data),
@@ -173,16 +205,28 @@ fn written_number(data: &[u8]) -> Result<i128, Refusal> {
         .iter()
         .all(|byte| byte.is_ascii_digit() || *byte == b'.')
     {
-        return Err(Refusal::BadForm);
+        return WrittenNumber::BadForm;
     }
     let digits: Vec<u8> = rest.iter().copied().filter(|byte| *byte != b'.').collect();
     if digits.is_empty() {
-        return Err(Refusal::BadForm);
+        return WrittenNumber::BadForm;
     }
     let size = last_five(&digits)
         .iter()
         .fold(0, |size, digit| 10 * size + i128::from(digit - b'0'));
-    Ok(if negative { -size } else { size })
+    let number = if negative { -size } else { size };
+    held_to_limits(number, limits)
+}
+
+/// The nearest number that the limits allow (document 02, ticket 5).
+fn held_to_limits(number: i128, limits: Limits) -> WrittenNumber {
+    if number < limits.lowest {
+        WrittenNumber::HeldTo(limits.lowest)
+    } else if number > limits.highest {
+        WrittenNumber::HeldTo(limits.highest)
+    } else {
+        WrittenNumber::Itself(number)
+    }
 }
 
 fn last_five(digits: &[u8]) -> &[u8] {
@@ -191,6 +235,7 @@ fn last_five(digits: &[u8]) -> &[u8] {
 
 #[cfg(test)]
 mod tests {
+    use super::WrittenNumber::{HeldTo, Itself};
     use super::*;
 
     #[test]
@@ -207,13 +252,44 @@ mod tests {
             (b"-1.9999", -19_999),
         ];
         for (data, number) in good {
-            assert_eq!(written_number(data), Ok(number));
+            assert_eq!(written_number(data, SETPOINT_LIMITS), Itself(number));
         }
         let bad: [&[u8]; 10] = [
             b"", b"-", b".", b"-.", b"--1", b"1-", b".-5", b"+1", b" 1", b"1 ",
         ];
         for data in bad {
-            assert_eq!(written_number(data), Err(Refusal::BadForm));
+            for limits in [SETPOINT_LIMITS, CODE_LIMITS] {
+                assert_eq!(written_number(data, limits), WrittenNumber::BadForm);
+            }
+        }
+    }
+
+    #[test]
+    fn numbers_past_a_limit() {
+        let setpoints: [(&[u8], WrittenNumber); 7] = [
+            (b"99999", Itself(99_999)),
+            (b"100000", Itself(0)),
+            (b"-19999", Itself(-19_999)),
+            (b"-20000", HeldTo(-19_999)),
+            (b"-120000", HeldTo(-19_999)),
+            (b"-119999", Itself(-19_999)),
+            (b"-9.99.99", HeldTo(-19_999)),
+        ];
+        for (data, number) in setpoints {
+            assert_eq!(written_number(data, SETPOINT_LIMITS), number);
+        }
+        let codes: [(&[u8], WrittenNumber); 8] = [
+            (b"4095", Itself(4_095)),
+            (b"4096", HeldTo(4_095)),
+            (b"104095", Itself(4_095)),
+            (b"104096", HeldTo(4_095)),
+            (b"99999", HeldTo(4_095)),
+            (b"0", Itself(0)),
+            (b"-0", Itself(0)),
+            (b"-1", HeldTo(0)),
+        ];
+        for (data, number) in codes {
+            assert_eq!(written_number(data, CODE_LIMITS), number);
         }
     }
 

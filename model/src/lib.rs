@@ -1,5 +1,6 @@
-//! A model of the panel meter, written from document 01 and from ticket 2 of
-//! document 02, which changes what max and min take.
+//! A model of the panel meter, written from document 01 and from two tickets of
+//! document 02: ticket 2 changes what max and min take, ticket 5 what a number
+//! past a limit sets.
 //!
 //! Every module carries out one section of document 01 in the plainest way:
 //! wide whole numbers, exact fractions and comparisons, and nothing kept that

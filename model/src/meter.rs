@@ -164,7 +164,6 @@ impl Running {
             Ok(command) => self.carry_out(command, place, buffer),
             Err(Refusal::OtherNode) => Answer::OtherNode,
             Err(Refusal::BadForm) => Answer::BadForm,
-            Err(Refusal::OutsideRange) => Answer::OutsideRange,
         }
     }
 
@@ -195,8 +194,9 @@ impl Running {
         }
     }
 
-    /// The host may set the code while it has the outputs in its hands (the table
-    /// of answers, row 8; Analog, sentence 2).
+    /// The host may set the code while it has the outputs in its hands. Otherwise
+    /// it may not, whatever the number (the table of answers, row 8; Analog,
+    /// sentence 2; document 02, ticket 5).
     fn write_analog_output(&mut self, code: i128) -> Answer {
         if self.mode == Mode::Automatic {
             return Answer::AnalogInAutomatic;

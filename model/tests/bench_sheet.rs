@@ -1,4 +1,5 @@
-//! The cases of document 01's bench sheet, and its bench program's example.
+//! The cases of document 01's bench sheet, one of them as document 02, ticket 5
+//! changes it, and its bench program's example.
 
 mod common;
 
@@ -84,8 +85,8 @@ fn six_digits() {
     let mut hand = on_node(0);
     assert_eq!(hand.send(b"VE123456*"), Answer::CarriedOut);
     assert_eq!(hand.setpoint(0), 23_456);
-    assert_eq!(hand.send(b"VE-120000*"), Answer::OutsideRange);
-    assert_eq!(hand.setpoint(0), 23_456);
+    assert_eq!(hand.send(b"VE-120000*"), Answer::CarriedOut);
+    assert_eq!(hand.setpoint(0), -19_999);
 }
 
 #[test]

@@ -1,4 +1,5 @@
-//! The examples by which the open points of document 01 are settled.
+//! The examples by which the open points of document 01 are settled, those with
+//! numbers past a limit as document 02, ticket 5 changes them.
 
 mod common;
 
@@ -171,6 +172,8 @@ fn number_forms() {
         (b"VE-0*", 0),
         (b"VE-100000*", 0),
         (b"VE-19999*", -19_999),
+        (b"VE-20000*", -19_999),
+        (b"VE-99999*", -19_999),
         (b"VE99999*", 99_999),
         (b"VE0000000042*", 42),
     ] {
@@ -189,8 +192,6 @@ fn number_forms() {
             (b"VE.-5*", BadForm),
             (b"VE+1*", BadForm),
             (b"VE 1*", BadForm),
-            (b"VE-20000*", OutsideRange),
-            (b"VE-99999*", OutsideRange),
         ],
     );
 }
@@ -200,12 +201,12 @@ fn analog_register() {
     answers(
         0,
         &[
-            (b"VI5000*", OutsideRange),
+            (b"VI5000*", AnalogInAutomatic),
             (b"VI5*", AnalogInAutomatic),
-            (b"VI-1*", OutsideRange),
+            (b"VI-1*", AnalogInAutomatic),
             (b"VI-0*", AnalogInAutomatic),
             (b"VI4095*", AnalogInAutomatic),
-            (b"VI4096*", OutsideRange),
+            (b"VI4096*", AnalogInAutomatic),
         ],
     );
     let mut hand = on_node(0);

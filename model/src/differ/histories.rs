@@ -4,6 +4,7 @@
 use super::broken::{bad_line, break_one_rule};
 use super::captures;
 use super::floods;
+use super::limits;
 use super::places::any_place;
 use super::random::Random;
 use super::samples;
@@ -95,7 +96,7 @@ fn any_action(script: &mut Script, wanted: Wanted) {
     }
     match script
         .random
-        .weighted(&[14, 16, 8, 10, 22, 9, 5, 5, 5, 5, 5, 6, 9, 1])
+        .weighted(&[14, 16, 8, 10, 22, 9, 7, 5, 5, 5, 5, 6, 9, 3, 3, 1])
     {
         0 => samples::loose_samples(script),
         1 => samples::excursion(script),
@@ -110,6 +111,8 @@ fn any_action(script: &mut Script, wanted: Wanted) {
         10 => strings::noise(script),
         11 => strings::interrupted_string(script),
         12 => strings::any_key(script),
+        13 => limits::codes(script),
+        14 => limits::held_within_a_run(script),
         _ if wanted.bad_lines => {
             let line = bad_line(&mut script.random, &script.settings);
             script.line(&line);

@@ -1,6 +1,7 @@
 //! Strings: good ones of every form, near misses, long ones, strings for other
 //! nodes, and noise.
 
+use super::limits;
 use super::samples;
 use super::script::Script;
 
@@ -50,21 +51,30 @@ fn good_body(script: &mut Script) -> Vec<u8> {
     }
 }
 
-/// VE to VH. The value is remembered, so that samples can aim at it.
+/// VE to VH.
 fn setpoint_body(script: &mut Script) -> Vec<u8> {
     let alarm = script.random.below(4);
     let present = i64::from(script.setpoints[alarm]);
     let value = match script.random.below(8) {
         0 | 1 => present,
         2 => present + script.random.between(-2, 2),
-        3 => script.random.pick(&[99_999, -19_999, -20_000, -99_999, 0]),
+        3 => limits::setpoint_at_a_limit(&mut script.random),
         4 => script.random.between(-99_999, 99_999),
         _ => present + script.random.between(-20, 20),
     };
-    let value = value.clamp(-99_999, 99_999);
-    if value >= -19_999 {
-        script.setpoints[alarm] = value as i32;
-    }
+    body_with_setpoint(script, alarm, value.clamp(-99_999, 99_999))
+}
+
+/// A setpoint's value in a string for this meter.
+pub fn write_setpoint(script: &mut Script, alarm: usize, value: i64) {
+    let body = body_with_setpoint(script, alarm, value);
+    own_string(script, &body);
+}
+
+/// What the value sets is remembered, so that samples can aim at it.
+fn body_with_setpoint(script: &mut Script, alarm: usize, value: i64) -> Vec<u8> {
+    let set = value.clamp(limits::LOWEST_SETPOINT, limits::HIGHEST_SETPOINT);
+    script.setpoints[alarm] = set as i32;
     let mut body = vec![b'V', b"EFGH"[alarm]];
     body.extend(number_form(script, value));
     body
@@ -72,12 +82,22 @@ fn setpoint_body(script: &mut Script) -> Vec<u8> {
 
 fn analog_body(script: &mut Script) -> Vec<u8> {
     let value = match script.random.below(3) {
-        0 => script.random.pick(&[0, 4_095, 4_096, -1, 99_999, -99_999]),
+        0 => limits::code_at_a_limit(&mut script.random),
         1 => script.random.between(-10, 5_000),
         _ => script.random.between(0, 4_095),
     };
+    body_with_code(script, value)
+}
+
+/// A code for the analog register in a string for this meter.
+pub fn write_code(script: &mut Script, code: i64) {
+    let body = body_with_code(script, code);
+    own_string(script, &body);
+}
+
+fn body_with_code(script: &mut Script, code: i64) -> Vec<u8> {
     let mut body = b"VI".to_vec();
-    body.extend(number_form(script, value));
+    body.extend(number_form(script, code));
     body
 }
 
@@ -98,10 +118,11 @@ fn status_body(script: &mut Script) -> Vec<u8> {
 /// in front that do not count, points anywhere behind the minus.
 fn number_form(script: &mut Script, value: i64) -> Vec<u8> {
     let random = &mut script.random;
-    let mut digits = match random.below(6) {
+    let mut digits = match random.below(8) {
         0 => format!("{:05}", value.abs()),
         1 => format!("{:09}", value.abs()),
-        2 => format!("{}{:05}", random.between(1, 99_999), value.abs()),
+        2 => format!("{}{:05}", random.between(1, 9), value.abs()),
+        3 => format!("{}{:05}", random.between(1, 99_999), value.abs()),
         _ => format!("{}", value.abs()),
     }
     .into_bytes();
@@ -149,6 +170,10 @@ fn change(script: &mut Script, string: &mut Vec<u8>) {
 /// Every command with every byte behind it that could pass for a register,
 /// and with data that may or may not be any.
 pub fn strange_body(script: &mut Script) {
+    if script.random.one_in(4) {
+        strange_number(script);
+        return;
+    }
     let mut body = command_and_register(script);
     match script.random.below(4) {
         0 | 1 => {}
@@ -175,11 +200,19 @@ fn command_and_register(script: &mut Script) -> Vec<u8> {
     body
 }
 
+/// A register that takes a number, with data that may or may not be one.
+fn strange_number(script: &mut Script) {
+    let mut body = vec![b'V', script.random.pick(b"EFGHI")];
+    body.extend_from_slice(strange_data(script));
+    own_string(script, &body);
+}
+
 /// Data as a careless host may write it.
 fn strange_data(script: &mut Script) -> &'static [u8] {
     script.random.pick(&[
         b"-", b".", b"-.", b"--1", b"1-", b".-5", b"+1", b" 1", b"1 ", b"-0", b"-100000", b"..7",
-        b"-.5", b"1.2.3", b"1a", b"12", b"5\x80", b"\xff", b"\x80", b"1,5", b"0x1",
+        b"-.5", b"1.2.3", b"1a", b"12", b"5\x80", b"\xff", b"\x80", b"1,5", b"0x1", b"-20000-",
+        b"-20000 ", b"4096-", b"--20000",
     ])
 }
 
@@ -335,12 +368,16 @@ pub fn poll_between(script: &mut Script) {
     }
 }
 
-/// Writes a setpoint's present value, as each poll of a careful host does.
+/// Writes a setpoint's present value, as each poll of a careful host does. At the
+/// lowest limit a number past it does the same.
 fn rewrite_setpoint(script: &mut Script, alarm: usize) {
     let present = i64::from(script.setpoints[alarm]);
-    let mut body = vec![b'V', b"EFGH"[alarm]];
-    body.extend(number_form(script, present));
-    own_string(script, &body);
+    let value = if present == limits::LOWEST_SETPOINT && script.random.one_in(2) {
+        limits::setpoint_past_the_lowest(&mut script.random)
+    } else {
+        present
+    };
+    write_setpoint(script, alarm, value);
 }
 
 /// Keys known and unknown.

@@ -1,6 +1,7 @@
 //! What a run has reached: events, answers, broken rules and states.
 
 use super::run_tally::RunTally;
+use super::write_tally::WriteTally;
 use crate::analog::Mode;
 use crate::answer::{Answer, ANSWER_NAMES};
 use crate::lines::{Outcome, Replay};
@@ -17,6 +18,7 @@ pub struct Tally {
     pub bytes: u64,
     pub power_ups: u64,
     pub not_understood: u64,
+    /// By their numbers, of which none is 7.
     answers: [u64; 13],
     rules: [u64; 11],
     readings_over: u64,
@@ -30,6 +32,7 @@ pub struct Tally {
     max_runs: RunTally,
     min_runs: RunTally,
     both_runs: u64,
+    writes: WriteTally,
     last_alarms: [bool; 4],
     last_extremes: Option<(Reading, Reading)>,
 }
@@ -69,6 +72,7 @@ impl Tally {
         self.last_extremes = None;
         self.max_runs.power_up();
         self.min_runs.power_up();
+        self.writes.power_up();
     }
 
     fn count_state(&mut self, event: Event, running: &Running) {
@@ -89,6 +93,7 @@ impl Tally {
         self.min_runs.count(event, running.reading, &running.min);
         let both = running.max.run().is_some() && running.min.run().is_some();
         self.both_runs += u64::from(both);
+        self.writes.count(event, running);
     }
 }
 
@@ -108,7 +113,7 @@ impl fmt::Display for Tally {
             self.power_ups, self.not_understood
         )?;
         writeln!(out, "answers reached:")?;
-        for (number, name) in ANSWER_NAMES.iter().enumerate() {
+        for (number, name) in ANSWER_NAMES {
             writeln!(out, "  {number:>2} {name:<22} {:>10}", self.answers[number])?;
         }
         write!(out, "configurations refused by rule:")?;
@@ -136,6 +141,7 @@ impl fmt::Display for Tally {
             out,
             "events left with both runs going on: {}",
             self.both_runs
-        )
+        )?;
+        writeln!(out, "{}", self.writes)
     }
 }
