@@ -9,7 +9,7 @@ ghost use lib.ListN.{take};
 ghost use Rattle.number.specs.Number.{number};
 ghost use Rattle.command.specs.Parse.{sole, reading, resetting, printing, status, writeTo, dataOf, writing, body, secondDigit, firstDigit, parse};
 
-// What a string asks: T reads a register, P prints a block, R resets a register, V writes a number to a register or a byte to J.
+// What a string asks: T reads a register, P prints a block, R resets a register, V writes a number that the register holds, or a byte to J.
 // A register is given by its place in the table.
 pub enum Asked {
     Read(usize),

@@ -2,22 +2,25 @@
 use Prim.Native.Nat.{ℕ, _≤_, _<_}
 use mathlib.Core.Path.{_≡_}
 use mathlib.Core.Bool.{true}
-use mathlib.Core.List.{List}
+use mathlib.Core.List.{List, _∷_}
 use mathlib.Core.Logic.{_≢_, _↔_}
 use mathlib.Core.Option.{none, some}
 use lib.IntN.{ℤ}
 use lib.Signed.{leZ}
+use Rattle.exact.specs.Meaning.{IsHeld}
+use Rattle.register.specs.Bytes.{byte}
 use Rattle.register.specs.Registers.{entry, holds, count, at}
 use Rattle.register.specs.declared.Limits.{Limits}
+use Rattle.register.specs.declared.Writes.the-variants.{Number as Limited}
 use Rattle.number.specs.Number.{number}
 use Rattle.number.specs.Reads.{Reads}
 use Rattle.number.specs.declared.Number.the-variants.{NoNumber}
-use Rattle.command.specs.Parse.{parse}
+use Rattle.command.specs.Parse.{body, parse}
 use Rattle.command.specs.Addressed.{addressed}
 use Rattle.command.specs.declared.Asked.{Asked}
 use Rattle.command.specs.declared.Asked.the-variants.{Read, Print, Reset, Write, Status, BadForm}
 use Rattle.command.specs.declared.Parsed.the-variants.{NoNode, To}
-use Rattle.form.specs.Grammar.{BeginsN, BeginsDigit, Numeral, Body, For, Says, NoDigit}
+use Rattle.form.specs.Grammar.{BeginsN, BeginsDigit, Numeral, Letter, Body, For, Says, NoDigit}
 use Rattle.form.specs.Change.{change, Change}
 
 -- s asks nothing of node n
@@ -54,5 +57,8 @@ pub record Understood : Type 0 where
   -- the number reader reads the number that stands there, cut to five digits, and holds that to the limits; where none stands there it says so
   pub numbers : (l : Limits) (s : List ℕ) (z : ℤ) → leZ (l .low) (l .high) ≡ true → Numeral z s → Reads l z (number l s)
   pub no-number : (l : Limits) (s : List ℕ) → (number l s ≡ NoNumber) ↔ ((z : ℤ) → Numeral z s → ⊥)
+  -- so V of a number past a limit asks just what V of that limit asks
+  pub held-alike : (r c : ℕ) (l : Limits) (z y : ℤ) (s t : List ℕ) → Letter r c → entry r .written ≡ Limited l → IsHeld (l .low) (l .high) z y
+      → Numeral z s → Numeral y t → body (byte "V" ∷ c ∷ s) ≡ body (byte "V" ∷ c ∷ t)
   -- whatever is found is within what its type may hold
   pub permitted : (s : List ℕ) (n : ℕ) (a : Asked) → parse s ≡ To n a → (n ≤ 99) × Permitted a
