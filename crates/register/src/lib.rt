@@ -1,4 +1,5 @@
-// The registers: letter, mnemonic, permitted commands and limits, one constant table; and what a block print may choose of them.
+// The registers: letter, mnemonic, permitted commands and the limits of what V writes, in constant tables; and what a block print may
+// choose of them.
 ghost use mathlib.Core.Path.{_≡_};
 ghost use Rattle.register.specs.Registers.{registerOf, entry, index};
 
