@@ -7,7 +7,7 @@ use Prim.Native.Nat.{ℕ, _+_, _-_, _*_}
 use native.Mathlib.Omega.{arith}
 use lib.Dec.{eqb}
 use Rattle.register.specs.Bytes.{byte}
-use Rattle.number.specs.Number.{isDigit}
+use Rattle.numeral.specs.Number.{isDigit}
 use Rattle.command.specs.Parse.{body, secondDigit, firstDigit, parse}
 use Rattle.command.specs.Addressed.{leading, numbered, addressed, parsedNode}
 use Rattle.command.specs.declared.Parsed.the-variants.{NoNode, To}

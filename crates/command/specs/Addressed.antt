@@ -5,7 +5,7 @@ use mathlib.Core.List.{List, [], _∷_}
 use mathlib.Core.Option.{Option, none, some}
 use lib.Dec.{eqb}
 use Rattle.register.specs.Bytes.{byte}
-use Rattle.number.specs.Number.{isDigit, value}
+use Rattle.numeral.specs.Number.{isDigit, value}
 use Rattle.command.specs.declared.Parsed.{Parsed}
 use Rattle.command.specs.declared.Parsed.the-variants.{NoNode, To}
 

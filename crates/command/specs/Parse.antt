@@ -7,9 +7,9 @@ use Rattle.register.specs.Bytes.{byte}
 use Rattle.register.specs.Registers.{entry, count, index}
 use Rattle.register.specs.declared.Writes.{Writes}
 use Rattle.register.specs.declared.Writes.the-variants.{Nothing, Number as Limited, Byte}
-use Rattle.number.specs.Number.{isDigit, number}
-use Rattle.number.specs.declared.Number.{Number}
-use Rattle.number.specs.declared.Number.the-variants.{Is, Held, NoNumber}
+use Rattle.numeral.specs.Number.{isDigit, number}
+use Rattle.numeral.specs.declared.Number.{Number}
+use Rattle.numeral.specs.declared.Number.the-variants.{Is, Held, NoNumber}
 use Rattle.command.specs.declared.Asked.{Asked}
 use Rattle.command.specs.declared.Asked.the-variants.{Read, Print, Reset, Write, Status, BadForm}
 use Rattle.command.specs.declared.Parsed.{Parsed}

@@ -1,12 +1,12 @@
 // The register strings: what a string asks, and of which node.
 // Which registers there are, which command takes which and within which limits is said by crate `register` alone.
-use number::Number;
+use numeral::Number;
 use register::Limits;
 use register::Writes;
 ghost use mathlib.Core.Path.{_≡_};
 ghost use Prim.Native.Nat.{_<_, _≤_};
 ghost use lib.ListN.{take};
-ghost use Rattle.number.specs.Number.{number};
+ghost use Rattle.numeral.specs.Number.{number};
 ghost use Rattle.command.specs.Parse.{sole, reading, resetting, printing, status, writeTo, dataOf, writing, body, secondDigit, firstDigit, parse};
 
 // What a string asks: T reads a register, P prints a block, R resets a register, V writes a number that the register holds, or a byte to J.
@@ -91,7 +91,7 @@ fn status(s: &[u8]) -> Asked
 fn write_number(i: usize, limits: Limits, s: &[u8]) -> Asked
     ensures { λ r. ⌜ r ≡ writeTo i (number limits (now (s .entry))) ⌝ }
 {
-    let n = number::number_of(limits, s);
+    let n = numeral::number_of(limits, s);
     match n {
         Number::Is(z) => Asked::Write(i, z),
         Number::Held(z) => Asked::Write(i, z),

@@ -11,17 +11,17 @@ use lib.IntN.{ℤ, pos, negℤ}
 use lib.ListN.{length, take, drop, take-append-drop, length-drop}
 use Rattle.register.specs.Bytes.{byte}
 use Rattle.register.specs.Registers.{Listed, noRegister, entry, count, index}
-use Rattle.number.specs.Number.{isDigit, isPoint, figures, keep, digits, filled, onward, value, last, amount, heldBy, number, plus, minus}
+use Rattle.numeral.specs.Number.{isDigit, isPoint, figures, keep, digits, filled, onward, value, last, amount, heldBy, number, plus, minus}
 use Rattle.command.specs.Parse.{sole, reading, resetting, printing, status, writeTo, dataOf, writing, body, firstDigit, secondDigit, parse}
 use Rattle.form.specs.Grammar as form
 use Rattle.form.specs.Grammar.{Digit, BeginsN, BeginsDigit, Figures, LastFive, Worth, Counts, Numeral, Letter, Body, For}
 use Rattle.register.specs.declared.Limits.{Limits}
 use Rattle.register.specs.declared.Writes.{Writes}
 use Rattle.register.specs.declared.Writes.the-variants.{Nothing, Number as Limited, Byte}
-use Rattle.number.specs.declared.Amount.{Amount}
-use Rattle.number.specs.declared.Amount.the-variants.{Of, NoAmount}
-use Rattle.number.specs.declared.Number.{Number}
-use Rattle.number.specs.declared.Number.the-variants.{NoNumber}
+use Rattle.numeral.specs.declared.Amount.{Amount}
+use Rattle.numeral.specs.declared.Amount.the-variants.{Of, NoAmount}
+use Rattle.numeral.specs.declared.Number.{Number}
+use Rattle.numeral.specs.declared.Number.the-variants.{NoNumber}
 use Rattle.command.specs.declared.Asked.{Asked}
 use Rattle.command.specs.declared.Asked.the-variants.{Read, Reset, Status, BadForm}
 use Rattle.command.specs.declared.Parsed.{Parsed}
@@ -29,7 +29,7 @@ use Rattle.command.specs.declared.Parsed.the-variants.{NoNode, To}
 use Rattle.exact.proofs.Z.{never, both}
 use Rattle.exact.proofs.Held.{held-is}
 use Rattle.register.proofs.Table.{index-of-letter, numbered, byte-at}
-use Rattle.number.proofs.Digits.{last-all}
+use Rattle.numeral.proofs.Digits.{last-all}
 use Rattle.form.proofs.Said.{digit-test, digit-of, held-said}
 
 -- ── a V number ──

@@ -10,7 +10,7 @@ use borrow.Author.Tests.{eqb-true, eqb-false}
 use lib.Dec.{eqb}
 use Rattle.register.specs.Bytes.{byte}
 use Rattle.exact.proofs.Z.{never}
-use Rattle.number.specs.Number.{isDigit}
+use Rattle.numeral.specs.Number.{isDigit}
 use Rattle.command.specs.Parse.{body, firstDigit, parse}
 use Rattle.command.specs.Addressed.{addressed, parsedNode}
 use Rattle.command.proofs.Addressed.{parsed-node}

@@ -12,10 +12,10 @@ use Rattle.register.specs.Bytes.{byte}
 use Rattle.register.specs.Registers.{entry}
 use Rattle.register.specs.declared.Limits.{Limits}
 use Rattle.register.specs.declared.Writes.the-variants.{Number as Limited}
-use Rattle.number.specs.Number.{number}
-use Rattle.number.specs.Reads.{Reads}
-use Rattle.number.specs.declared.Number.the-variants.{NoNumber}
-use Rattle.number.proofs.Held.{reads, number-some}
+use Rattle.numeral.specs.Number.{number}
+use Rattle.numeral.specs.Reads.{Reads}
+use Rattle.numeral.specs.declared.Number.the-variants.{NoNumber}
+use Rattle.numeral.proofs.Held.{reads, number-some}
 use Rattle.command.specs.Parse.{body}
 use Rattle.form.specs.Grammar as form
 use Rattle.form.specs.Grammar.{Numeral, Letter}

@@ -14,18 +14,18 @@ use Rattle.exact.proofs.Held.{held-same, held-only}
 use Rattle.register.specs.Registers.{entry, index}
 use Rattle.register.specs.declared.Limits.{Limits}
 use Rattle.register.specs.declared.Writes.the-variants.{Number as Limited}
-use Rattle.number.specs.Number.{isDigit, figures, digits, filled, value, last, amount, heldBy, number, plus}
+use Rattle.numeral.specs.Number.{isDigit, figures, digits, filled, value, last, amount, heldBy, number, plus}
 use Rattle.command.specs.Parse.{sole, reading, resetting, printing, status, writeTo, dataOf, writing, body, firstDigit, secondDigit, parse}
 use Rattle.form.specs.Grammar as form
 use Rattle.form.specs.Grammar.{Digit, BeginsN, BeginsDigit, Address, Figures, LastFive, Worth, Counts, Numeral, Letter, Body}
-use Rattle.number.specs.declared.Amount.the-variants.{Of}
-use Rattle.number.specs.declared.Number.the-variants.{Is, Held}
+use Rattle.numeral.specs.declared.Amount.the-variants.{Of}
+use Rattle.numeral.specs.declared.Number.the-variants.{Is, Held}
 use Rattle.command.specs.declared.Asked.{Asked}
 use Rattle.command.specs.declared.Asked.the-variants.{Read, Reset, Write, Status}
 use Rattle.command.specs.declared.Parsed.the-variants.{To}
 use Rattle.register.proofs.Ranges.{in-range, range}
 use Rattle.register.proofs.Table.{letter-index}
-use Rattle.number.proofs.Digits.{value-more, last-end, last-all}
+use Rattle.numeral.proofs.Digits.{value-more, last-end, last-all}
 
 -- ── digits ──
 

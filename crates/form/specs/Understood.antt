@@ -12,9 +12,9 @@ use Rattle.register.specs.Bytes.{byte}
 use Rattle.register.specs.Registers.{entry, holds, count, at}
 use Rattle.register.specs.declared.Limits.{Limits}
 use Rattle.register.specs.declared.Writes.the-variants.{Number as Limited}
-use Rattle.number.specs.Number.{number}
-use Rattle.number.specs.Reads.{Reads}
-use Rattle.number.specs.declared.Number.the-variants.{NoNumber}
+use Rattle.numeral.specs.Number.{number}
+use Rattle.numeral.specs.Reads.{Reads}
+use Rattle.numeral.specs.declared.Number.the-variants.{NoNumber}
 use Rattle.command.specs.Parse.{body, parse}
 use Rattle.command.specs.Addressed.{addressed}
 use Rattle.command.specs.declared.Asked.{Asked}

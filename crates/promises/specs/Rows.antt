@@ -95,6 +95,7 @@ module _ (m : Meter) (buffer : List ℕ) (place : ℕ) where
     pub alarms-key : sound m ≡ true → Gives (key m (pos 5) buffer place) 0 0 (withInstrument m (instruments.resetAlarms (m .config .working) (m .instrument))) buffer
     pub reset : (b r : ℕ) (s : List ℕ) → Ends m b s → Says s (nodeOf m) (Reset r)
         → Gives (byte m b buffer place) 0 0 (changed m (resetBy m r)) buffer
+    -- z is what is written: the number that stands there, or the limit that it is held to
     pub write : (b r : ℕ) (z : ℤ) (s : List ℕ) → Ends m b s → Says s (nodeOf m) (Write r z) → shut (m .instrument .outputs .mode) r ≡ false
         → Gives (byte m b buffer place) 0 0 (changed m (instruments.writeRegister (m .config .working) (m .instrument) r z)) buffer
     pub status : (b v : ℕ) (s : List ℕ) → Ends m b s → Says s (nodeOf m) (Status v)

@@ -12,7 +12,7 @@ use Rattle.analog.specs.Analog as analogs
 use Rattle.config.specs.Config as configs
 use Rattle.register.specs.Registers.{entry, index}
 use Rattle.receiver.specs.Receiver.{kind, store}
-use Rattle.number.specs.Number.{amount, number}
+use Rattle.numeral.specs.Number.{amount, number}
 use Rattle.command.specs.Parse as commands
 use Rattle.measured.specs.Measured as measured
 use Rattle.outputs.specs.Outputs as outputs

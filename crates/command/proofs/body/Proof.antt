@@ -3,7 +3,7 @@ use native.Mathlib.Omega.{arith}
 use mathlib.Core.Path.{sym, _∙_}
 use borrow.Author.Tests.{ne-eqb}
 use Rattle.command.specs.Parse.{body}
-use Rattle.number.proofs.Lists.{none, split}
+use Rattle.numeral.proofs.Lists.{none, split}
 use borrow.Author.Needs.{needs}
 use Rattle.command.proofs.body.Statement.{statement}
 use Rattle.command.proofs.body.Tie as tie

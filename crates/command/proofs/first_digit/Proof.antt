@@ -4,7 +4,7 @@ use mathlib.Core.Path.{sym, _∙_}
 use lib.ListN.{getD}
 use Rattle.register.specs.Bytes.{byte}
 use Rattle.command.specs.Parse.{firstDigit}
-use Rattle.number.proofs.Lists.{none, split}
+use Rattle.numeral.proofs.Lists.{none, split}
 use Rattle.register.proofs.Ranges.{in-range, below-range, above-range}
 use borrow.Author.Needs.{needs}
 use Rattle.command.proofs.first_digit.Statement.{statement}

@@ -6,7 +6,7 @@ use borrow.Author.Tests.{ne-eqb}
 use Rattle.register.specs.Bytes.{byte}
 use Rattle.command.specs.Parse.{body, parse}
 use Rattle.command.specs.declared.Parsed.the-variants.{To}
-use Rattle.number.proofs.Lists.{none, split}
+use Rattle.numeral.proofs.Lists.{none, split}
 use borrow.Author.Needs.{needs}
 use Rattle.command.proofs.parse.Statement.{statement}
 use Rattle.command.proofs.parse.Tie as tie

@@ -2,7 +2,7 @@
 use native.Mathlib.Omega.{arith}
 use mathlib.Core.Path.{sym}
 use Rattle.command.specs.Parse.{printing}
-use Rattle.number.proofs.Lists.{none, split}
+use Rattle.numeral.proofs.Lists.{none, split}
 use Rattle.command.proofs.print.Statement.{statement}
 use Rattle.command.proofs.print.Tie as tie
 

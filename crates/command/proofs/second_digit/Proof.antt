@@ -6,10 +6,10 @@ use mathlib.Core.Logic.{⊎-elim}
 use mathlib.Core.Bool.{false}
 use lib.ListN.{getD}
 use Rattle.register.specs.Bytes.{byte}
-use Rattle.number.specs.Number.{isDigit}
+use Rattle.numeral.specs.Number.{isDigit}
 use Rattle.command.specs.Parse.{body, secondDigit}
 use Rattle.command.specs.declared.Parsed.the-variants.{To}
-use Rattle.number.proofs.Lists.{none, split}
+use Rattle.numeral.proofs.Lists.{none, split}
 use Rattle.register.proofs.Ranges.{in-range, below-range, above-range}
 use borrow.Author.Needs.{needs}
 use Rattle.command.proofs.second_digit.Statement.{statement}

@@ -7,7 +7,7 @@ use Prim.Native.Nat.{ℕ}
 use lib.ListN.{length}
 use Rattle.register.specs.Registers.{count}
 use Rattle.command.specs.Parse.{sole}
-use Rattle.number.proofs.Lists.{one}
+use Rattle.numeral.proofs.Lists.{one}
 use Rattle.command.proofs.sole_register.Statement.{statement}
 use Rattle.command.proofs.sole_register.Tie as tie
 

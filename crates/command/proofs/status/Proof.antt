@@ -8,7 +8,7 @@ use lib.ListN.{length, getD}
 use borrow.Author.Tests.{le-leb, lt-leb}
 use Rattle.command.specs.Parse.{status}
 use Rattle.command.specs.declared.Asked.the-variants.{BadForm}
-use Rattle.number.proofs.Lists.{one}
+use Rattle.numeral.proofs.Lists.{one}
 use Rattle.command.proofs.status.Statement.{statement}
 use Rattle.command.proofs.status.Tie as tie
 

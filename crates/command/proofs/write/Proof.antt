@@ -2,7 +2,7 @@
 use native.Mathlib.Omega.{arith}
 use mathlib.Core.Path.{sym, _∙_}
 use Rattle.command.specs.Parse.{writing}
-use Rattle.number.proofs.Lists.{none, split}
+use Rattle.numeral.proofs.Lists.{none, split}
 use borrow.Author.Needs.{needs}
 use Rattle.command.proofs.write.Statement.{statement}
 use Rattle.command.proofs.write.Tie as tie

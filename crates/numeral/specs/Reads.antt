@@ -6,8 +6,8 @@ use lib.IntN.{ℤ}
 use Rattle.exact.specs.Sign.{within}
 use Rattle.exact.specs.Meaning.{IsHeld}
 use Rattle.register.specs.declared.Limits.{Limits}
-use Rattle.number.specs.declared.Number.{Number}
-use Rattle.number.specs.declared.Number.the-variants.{Is, Held, NoNumber}
+use Rattle.numeral.specs.declared.Number.{Number}
+use Rattle.numeral.specs.declared.Number.the-variants.{Is, Held, NoNumber}
 
 -- z was read, with the limits l, and n is the answer
 pub record Reads (l : Limits) (z : ℤ) (n : Number) : Type 0 where

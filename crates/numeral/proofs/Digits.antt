@@ -10,10 +10,10 @@ use borrow.Author.Tests.{leb-true, leb-false, ne-eqb}
 use lib.ListN.{length, take, drop, take-append-drop, length-append, length-drop}
 use lib.Seq.{drop-at}
 use Rattle.register.specs.Bytes.{byte}
-use Rattle.number.specs.Number.{isDigit, figures, keep, digits, filled, onward, value, last, amount}
+use Rattle.numeral.specs.Number.{isDigit, figures, keep, digits, filled, onward, value, last, amount}
 use Rattle.register.proofs.Ranges.{range}
-use Rattle.number.specs.declared.Amount.{Amount}
-use Rattle.number.specs.declared.Amount.the-variants.{Of, NoAmount}
+use Rattle.numeral.specs.declared.Amount.{Amount}
+use Rattle.numeral.specs.declared.Amount.the-variants.{Of, NoAmount}
 
 -- digits: each at most 9
 pub data Tens : List ℕ → Type 0 where

@@ -3,7 +3,7 @@ use register::Limits;
 ghost use mathlib.Core.Path.{_≡_};
 ghost use Prim.Native.Nat.{_<_};
 ghost use lib.IntN.{pos, negℤ};
-ghost use Rattle.number.specs.Number.{amount, heldBy, number};
+ghost use Rattle.numeral.specs.Number.{amount, heldBy, number};
 
 // The digits of a V number: its last five, without a sign.
 pub enum Amount {

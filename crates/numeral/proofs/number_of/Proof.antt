@@ -1,4 +1,4 @@
--- `number::number_of` meets its contract: a leading minus is the first byte, and the amount stands behind it. Assumes nothing.
+-- `numeral::number_of` meets its contract: a leading minus is the first byte, and the amount stands behind it. Assumes nothing.
 use native.Mathlib.Omega.{arith}
 use mathlib.Core.Path.{_≡_, sym, ap, _∙_}
 use mathlib.Core.Bool.{true}
@@ -7,12 +7,12 @@ use lib.ListN.{getD}
 use borrow.Author.Tests.{eq-eqb, ne-eqb}
 use Rattle.register.specs.Bytes.{byte}
 use Rattle.exact.proofs.Z.{back32}
-use Rattle.number.specs.Number.{amount, heldBy, number}
-use Rattle.number.proofs.Lists.{none, behind, split}
-use Rattle.number.proofs.Digits.{small}
+use Rattle.numeral.specs.Number.{amount, heldBy, number}
+use Rattle.numeral.proofs.Lists.{none, behind, split}
+use Rattle.numeral.proofs.Digits.{small}
 use borrow.Author.Needs.{needs}
-use Rattle.number.proofs.number_of.Statement.{statement}
-use Rattle.number.proofs.number_of.Tie as tie
+use Rattle.numeral.proofs.number_of.Statement.{statement}
+use Rattle.numeral.proofs.number_of.Tie as tie
 
 returns : tie.Need-returns
 unfolding number

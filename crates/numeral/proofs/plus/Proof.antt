@@ -1,10 +1,10 @@
--- `number::plus` meets its contract: a number of five digits fits a signed 32-bit number. Assumes nothing.
+-- `numeral::plus` meets its contract: a number of five digits fits a signed 32-bit number. Assumes nothing.
 use borrow.Author.Needs.{needs}
 use native.Mathlib.Omega.{arith}
 use mir.Syntax.{w32}
 use mir.Facts.{toZ-pos}
-use Rattle.number.proofs.plus.Statement.{statement}
-use Rattle.number.proofs.plus.Tie as tie
+use Rattle.numeral.proofs.plus.Statement.{statement}
+use Rattle.numeral.proofs.plus.Tie as tie
 
 cast-result : tie.Need-cast-result
 cast-result c = search needs

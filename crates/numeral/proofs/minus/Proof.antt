@@ -1,4 +1,4 @@
--- `number::minus` meets its contract: 0 less a number of five digits fits a signed 32-bit number. Assumes nothing.
+-- `numeral::minus` meets its contract: 0 less a number of five digits fits a signed 32-bit number. Assumes nothing.
 use borrow.Author.Needs.{needs}
 use native.Mathlib.Omega.{arith}
 use mathlib.Core.Path.{_≡_, sym, ap, subst, _∙_}
@@ -7,8 +7,8 @@ use lib.IntN.{ℤ, negℤ, pos, _-ℤ_, +ℤ-idl}
 use mir.Syntax.{w32}
 use mir.Val.{SFits, toZ, ofZ}
 use mir.Facts.{toZ-ofZ}
-use Rattle.number.proofs.minus.Statement.{statement}
-use Rattle.number.proofs.minus.Tie as tie
+use Rattle.numeral.proofs.minus.Statement.{statement}
+use Rattle.numeral.proofs.minus.Tie as tie
 
 plus-requires : tie.Need-plus-requires
 plus-requires c κs = search needs

@@ -11,9 +11,9 @@ use Rattle.exact.specs.Meaning.{IsHeld}
 use Rattle.exact.proofs.Z.{never, and-false, lt-not-le, within-is}
 use Rattle.exact.proofs.Held.{held-is, held-only}
 use Rattle.register.specs.declared.Limits.{Limits}
-use Rattle.number.specs.Number.{heldBy}
-use Rattle.number.specs.Reads.{Reads}
-use Rattle.number.specs.declared.Number.the-variants.{Is, Held, NoNumber}
+use Rattle.numeral.specs.Number.{heldBy}
+use Rattle.numeral.specs.Reads.{Reads}
+use Rattle.numeral.specs.declared.Number.the-variants.{Is, Held, NoNumber}
 
 module _ (l : Limits) (z : ℤ) where
   pub below : ltZ z (l .low) ≡ true → heldBy l z ≡ Held (l .low)

@@ -1,4 +1,4 @@
--- `number::amount_of` meets its contract: the loop's invariant is that the whole number says what the rest of it makes of what was read. Assumes nothing.
+-- `numeral::amount_of` meets its contract: the loop's invariant is that the whole number says what the rest of it makes of what was read. Assumes nothing.
 use Prim.Native.Nat.{ℕ, _+_, _*_, _-_, _≤_, _<_}
 use native.Mathlib.Omega.{arith}
 use native.Mathlib.Numerals.{add-one}
@@ -11,11 +11,11 @@ use mathlib.Core.List.{List, _∷_}
 use lib.ListN.{length, getD, drop}
 use lib.Seq.{drop-cons, drop-length}
 use Rattle.register.specs.Bytes.{byte}
-use Rattle.number.specs.Number.{amount}
-use Rattle.number.proofs.Digits.{left, left-start, left-digit, left-point, left-other, left-end}
+use Rattle.numeral.specs.Number.{amount}
+use Rattle.numeral.proofs.Digits.{left, left-start, left-digit, left-point, left-other, left-end}
 use Rattle.register.proofs.Ranges.{in-range, below-range, above-range}
-use Rattle.number.proofs.amount_of.Statement.{statement}
-use Rattle.number.proofs.amount_of.Tie as tie
+use Rattle.numeral.proofs.amount_of.Statement.{statement}
+use Rattle.numeral.proofs.amount_of.Tie as tie
 
 abbrev Inv-loop : tie.InvT-loop
 Inv-loop s n₀ seen₀ i₀ n seen i = (i ≤ length s) × (n < 100000) × (amount s ≡ left n seen (drop i s))

@@ -1,4 +1,4 @@
--- `number::held_to` meets its contract: each test picks its case. Assumes nothing.
+-- `numeral::held_to` meets its contract: each test picks its case. Assumes nothing.
 use borrow.Author.Needs.{needs}
 use mathlib.Core.Path.{_≡_, sym, ap, _∙_}
 use mathlib.Core.Bool.{false}
@@ -6,10 +6,10 @@ use lib.Signed.{ltZ}
 use mir.Syntax.{w32}
 use mir.Val.{toZ, ofZ}
 use mir.Facts.{toZ-ofZ}
-use Rattle.number.specs.declared.Number.the-variants.{Is, Held}
-use Rattle.number.proofs.Held.{below, above, between}
-use Rattle.number.proofs.held_to.Statement.{statement}
-use Rattle.number.proofs.held_to.Tie as tie
+use Rattle.numeral.specs.declared.Number.the-variants.{Is, Held}
+use Rattle.numeral.proofs.Held.{below, above, between}
+use Rattle.numeral.proofs.held_to.Statement.{statement}
+use Rattle.numeral.proofs.held_to.Tie as tie
 
 -- the limits' bits are their numbers
 low : (s : tie.Start) → toZ w32 (ofZ w32 (s .args .limits .low)) ≡ s .args .limits .low

@@ -9,10 +9,10 @@ use lib.ListN.{length, drop}
 use Rattle.exact.specs.Sign.{heldTo, within as withinZ}
 use Rattle.register.specs.Bytes.{byte, within}
 use Rattle.register.specs.declared.Limits.{Limits}
-use Rattle.number.specs.declared.Amount.{Amount}
-use Rattle.number.specs.declared.Amount.the-variants.{Of, NoAmount}
-use Rattle.number.specs.declared.Number.{Number}
-use Rattle.number.specs.declared.Number.the-variants.{Is, Held, NoNumber}
+use Rattle.numeral.specs.declared.Amount.{Amount}
+use Rattle.numeral.specs.declared.Amount.the-variants.{Of, NoAmount}
+use Rattle.numeral.specs.declared.Number.{Number}
+use Rattle.numeral.specs.declared.Number.the-variants.{Is, Held, NoNumber}
 
 abbrev pub isDigit : ℕ → Bool
 isDigit b = within (byte "0") (byte "9") b
