@@ -3,12 +3,16 @@ use borrow.Author.Tests.{leb-true}
 use native.Mathlib.Omega.{arith}
 use mathlib.Core.Path.{_≡_, refl, sym, _∙_}
 use mathlib.Core.Bool.{Bool, true, false, cond, not, _&&_}
-use mathlib.Core.List.{List}
+use mathlib.Core.List.{List, [], _∷_}
 use Prim.Native.Nat.{ℕ, zero, suc, _+_, _*_, _/_, _%_, _<_}
 use lib.Dec.{leb, eqb}
-use Rattle.exact.proofs.Z.{both, never}
+use lib.IntN.{ℤ}
+use lib.ListN.{set}
+use Rattle.exact.specs.Sign.{eqZ}
+use Rattle.exact.proofs.Z.{both, either, never}
+use Rattle.alarm.specs.Alarm.{written}
 use Rattle.alarm.specs.declared.Alarm.{Alarm}
-use Rattle.alarms.specs.Alarms.{alarmAt, bit, onBits}
+use Rattle.alarms.specs.Alarms.{alarmAt, writtenAt, bit, onBits}
 use Rattle.alarms.specs.Meaning.{IsOnBits}
 use Rattle.alarms.proofs.Four.{each-of-four}
 
@@ -102,3 +106,23 @@ on-bits-only l n u =
     let third : n / 4 % 2 ≡ m / 4 % 2 = same-bit (n / 4 % 2) (m / 4 % 2) (omega arith) (omega arith) (same 2 (omega arith)) in
     let fourth : n / 8 % 2 ≡ m / 8 % 2 = same-bit (n / 8 % 2) (m / 8 % 2) (omega arith) (omega arith) (same 3 (omega arith)) in
     in-bits n (u .small) ∙ rw (first, second, third, fourth) (sym (in-bits m (w .small)))
+
+-- ---- a setpoint that is written leaves them
+
+-- an alarm put in the place of one with the same state leaves every state
+set-on : (l : List Alarm) (k : ℕ) (a : Alarm) → a .on ≡ alarmAt l k .on → (j : ℕ) → alarmAt (set l k a) j .on ≡ alarmAt l j .on
+set-on [] k a e j = refl
+set-on (x ∷ l) zero a e zero = e
+set-on (x ∷ l) zero a e (suc j) = refl
+set-on (x ∷ l) (suc k) a e zero = refl
+set-on (x ∷ l) (suc k) a e (suc j) = set-on l k a e j
+
+written-on : (a : Alarm) (z : ℤ) → written a z .on ≡ a .on
+unfolding written
+written-on a z = either (λ (x : Alarm). x .on ≡ a .on) (eqZ z (a .setpoint)) refl refl
+
+pub written-bits : (l : List Alarm) (k : ℕ) (z : ℤ) → onBits (writtenAt l k z) ≡ onBits l
+unfolding onBits
+written-bits l k z =
+    let same = set-on l k (written (alarmAt l k) z) (written-on (alarmAt l k) z) in
+    rw (same 0, same 1, same 2, same 3)

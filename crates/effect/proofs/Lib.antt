@@ -1,3 +1,4 @@
 pub mod Able
 pub mod Shows
 pub mod Prints
+pub mod Lines

@@ -1,11 +1,10 @@
 -- What settings and instrument show fits into a line, and into a block; and a block is made of the lines that T gives. Assumes nothing.
 use native.Mathlib.Omega.{arith}
-use mathlib.Core.Path.{_≡_, refl, ap}
-use Prim.Native.Nat.{ℕ, zero, suc, _≤_, _<_}
+use mathlib.Core.Path.{_≡_, refl}
+use Prim.Native.Nat.{ℕ, zero, suc, _^_, _≤_, _<_}
 use lib.IntN.{natAbs}
 use Rattle.exact.proofs.Z.{from-to}
 use Rattle.register.specs.Registers.{at, count}
-use Rattle.reading.specs.declared.Reading.{Reading}
 use Rattle.field.specs.Field.{Showable}
 use Rattle.line.specs.Line.{line, Writable}
 use Rattle.block.specs.Block.{block}
@@ -49,18 +48,18 @@ block-is t w i = block-same (t .print) (valueLine (style t) (values (t .places) 
 -- ---- and they fit
 
 module _ (t : Talking) (w : Working) (i : Instrument) (a : Able t w i) where
-  showable : (r : ℕ) → r < count → Showable (placesAt (t .places) r) (shownAt w i r)
-  showable r h = record { few = few (t .places) r (a .places); short = shown-size w i (passes w i (a .instrument)) r h }
+  showable : (r : ℕ) → r < count → (r ≡ at "J" → i .outputs .status < 2 ^ 16) → Showable (placesAt (t .places) r) (shownAt w i r)
+  showable r h s = record { few = few (t .places) r (a .places); short = shown-size w i (passes w i (a .instrument)) r h s }
 
   named : natAbs (t .node) ≤ 99
   named = from-to (t .node) 0 99 (a .node) .1 .1
 
-  pub writable : (r : ℕ) → r < count → Writable (style t) r (placesAt (t .places) r) (shownAt w i r)
-  writable r h = record { named = named; known = h; fits = showable r h }
+  pub writable : i .outputs .status < 2 ^ 16 → (r : ℕ) → r < count → Writable (style t) r (placesAt (t .places) r) (shownAt w i r)
+  writable s r h = record { named = named; known = h; fits = showable r h (λ _. s) }
 
   pub printable : Printable (style t) (values (t .places) w i)
   printable =
       record {
         named = named;
-        fits = λ r h. let e = shown-there (t .places) w i r h in rw (e .0, e .1) (showable r (omega arith));
+        fits = λ r h. let e = shown-there (t .places) w i r h in rw (e .0, e .1) (showable r (omega arith) (λ j. omega arith));
       }

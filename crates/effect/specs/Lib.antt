@@ -3,3 +3,4 @@ pub mod Values
 pub mod Effect
 pub mod Able
 pub mod Prints
+pub mod Lines

@@ -7,7 +7,7 @@ use Rattle.alarm.specs.Alarm.{reset}
 use Rattle.alarm.specs.declared.Alarm.{Alarm}
 use Rattle.alarms.specs.Alarms.{allReset}
 use Rattle.config.specs.declared.Working.{Working}
-use Rattle.instrument.specs.Instrument.{withAlarms, resetAlarms, resetRegister}
+use Rattle.instrument.specs.Instrument.{withReset, resetAlarms, resetRegister}
 use Rattle.instrument.specs.Meaning.{Keys}
 use Rattle.instrument.specs.declared.Instrument.{Instrument}
 
@@ -17,9 +17,9 @@ module _ (w : Working) (i : Instrument) where
   unfolding resetRegister
   keys = record { total = refl; max = refl; min = refl; alarms = refl }
 
-  -- key 5 resets each of the four alarms and touches nothing else
-  pub resets-each : length (i .alarms) ≡ 4 → resetAlarms w i ≡ withAlarms i (map reset (i .alarms))
-  resets-each four = ap (withAlarms i) (go (i .alarms) four)
+  -- key 5 resets each of the four alarms, and the outputs are driven by what is left
+  pub resets-each : length (i .alarms) ≡ 4 → resetAlarms w i ≡ withReset i (map reset (i .alarms))
+  resets-each four = ap (withReset i) (go (i .alarms) four)
     where
       go : (l : List Alarm) → length l ≡ 4 → allReset l ≡ map reset l
       go [] e = absurd (omega arith)

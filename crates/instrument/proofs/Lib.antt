@@ -4,5 +4,6 @@ pub mod Registers
 pub mod Modes
 pub mod Soundness
 pub mod Scale
+pub mod Status
 pub mod Sizes
 pub mod Cases

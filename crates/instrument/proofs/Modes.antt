@@ -7,26 +7,27 @@ use Prim.Native.Nat.{ℕ, _/_, _%_}
 use lib.Dec.{eqb}
 use lib.IntN.{ℤ}
 use Rattle.alarm.specs.declared.Alarm.{Alarm}
-use Rattle.alarms.specs.Alarms.{bit}
+use Rattle.alarms.specs.Alarms.{bit, onBits}
 use Rattle.alarms.proofs.Laws as alarms
 use Rattle.config.specs.declared.Working.{Working}
 use Rattle.measured.specs.declared.Measured.{Measured}
-use Rattle.outputs.specs.Outputs.{outputs}
+use Rattle.outputs.specs.Outputs.{status}
 use Rattle.outputs.specs.declared.Mode.{Mode}
 use Rattle.instrument.specs.Instrument.{writeStatus}
 use Rattle.instrument.specs.Meaning.{ToManual, ToAutomatic}
 use Rattle.instrument.specs.declared.Instrument.{Instrument}
 
 module _ (w : Working) (i : Instrument) (b : ℕ) where
-  -- with bit 4 set only the mode changes
+  -- with bit 4 set only mode and status change
   pub to-manual : bit b 4 ≡ true → ToManual b i (writeStatus w i b)
-  unfolding writeStatus
-  to-manual e = rw e (record { measured = refl; alarms = refl; code = refl; mode = refl })
+  unfolding status writeStatus
+  to-manual e = rw e (record { measured = refl; alarms = refl; code = refl; mode = refl; status = refl })
 
   -- with bit 4 clear every alarm whose bit is 1 stays as it is and every other is reset, and the code is worked out at once
   pub to-automatic : bit b 4 ≡ false → ToAutomatic w b i (writeStatus w i b)
-  unfolding writeStatus
-  to-automatic e = rw e (record { measured = refl; alarms = alarms.reset-by-bits-is b (i .alarms); code = refl; mode = refl })
+  unfolding status writeStatus
+  to-automatic e =
+      rw e (record { measured = refl; alarms = alarms.reset-by-bits-is b (i .alarms); code = refl; mode = refl; status = refl })
 
   -- bits 5 to 7 make no difference
   pub upper-bits : writeStatus w i b ≡ writeStatus w i (b % 32)
@@ -41,13 +42,13 @@ module _ (w : Working) (i : Instrument) (b : ℕ) where
 
 -- ---- nothing else is what VJ makes
 
-abbrev made : Measured → List Alarm → ℤ → Mode → Instrument
-made m l code mode = record { measured = m; alarms = l; outputs = outputs code mode }
+abbrev made : Measured → List Alarm → ℤ → Mode → ℕ → Instrument
+made m l code mode s = record { measured = m; alarms = l; outputs = record { code = code; mode = mode; status = s } }
 
 -- two instruments with the same parts are the same
-same : {i n : Instrument} → i .measured ≡ n .measured → i .alarms ≡ n .alarms → i .outputs .code ≡ n .outputs .code → i .outputs .mode ≡ n .outputs .mode → i ≡ n
-same {i} {n} m l c o =
-    let parts : made (i .measured) (i .alarms) (i .outputs .code) (i .outputs .mode) ≡ made (n .measured) (n .alarms) (n .outputs .code) (n .outputs .mode) = cc in
+same : {i n : Instrument} → i .measured ≡ n .measured → i .alarms ≡ n .alarms → i .outputs .code ≡ n .outputs .code → i .outputs .mode ≡ n .outputs .mode → i .outputs .status ≡ n .outputs .status → i ≡ n
+same {i} {n} m l c o s =
+    let parts : made (i .measured) (i .alarms) (i .outputs .code) (i .outputs .mode) (i .outputs .status) ≡ made (n .measured) (n .alarms) (n .outputs .code) (n .outputs .mode) (n .outputs .status) = cc in
     parts
 
 module _ (w : Working) (i n : Instrument) (b : ℕ) where
@@ -55,12 +56,11 @@ module _ (w : Working) (i n : Instrument) (b : ℕ) where
   pub to-manual-only : bit b 4 ≡ true → ToManual b i n → n ≡ writeStatus w i b
   to-manual-only e u =
       let v = to-manual w i b e in
-      same (u .measured ∙ sym (v .measured)) (u .alarms ∙ sym (v .alarms)) (u .code ∙ sym (v .code)) (u .mode ∙ sym (v .mode))
+      same (u .measured ∙ sym (v .measured)) (u .alarms ∙ sym (v .alarms)) (u .code ∙ sym (v .code)) (u .mode ∙ sym (v .mode)) (u .status ∙ sym (v .status))
 
   -- and so does what ToAutomatic says
   pub to-automatic-only : bit b 4 ≡ false → ToAutomatic w b i n → n ≡ writeStatus w i b
   to-automatic-only e u =
       let v = to-automatic w i b e in
-      same (u .measured ∙ sym (v .measured))
-      (alarms.reset-by-bits-only b (i .alarms) (n .alarms) (u .alarms) ∙ sym (alarms.reset-by-bits-only b (i .alarms) _ (v .alarms)))
-      (u .code ∙ sym (v .code)) (u .mode ∙ sym (v .mode))
+      let l = alarms.reset-by-bits-only b (i .alarms) (n .alarms) (u .alarms) ∙ sym (alarms.reset-by-bits-only b (i .alarms) _ (v .alarms)) in
+      same (u .measured ∙ sym (v .measured)) l (u .code ∙ sym (v .code)) (u .mode ∙ sym (v .mode)) (u .status ∙ ap onBits l ∙ sym (v .status))

@@ -1,5 +1,5 @@
--- What a sound instrument shows fits into a field. Assumes nothing.
-use borrow.Author.Tests.{eqb-false}
+-- What a sound instrument shows fits into a field, whatever status it has stored. Assumes nothing.
+use borrow.Author.Tests.{eqb-true, eqb-false}
 use native.Mathlib.Omega.{arith}
 use mathlib.Core.Path.{_≡_}
 use mathlib.Core.Bool.{true, _||_}
@@ -24,7 +24,6 @@ use Rattle.alarms.specs.Alarms.{setpointOf}
 use Rattle.config.specs.Config.{placesRule}
 use Rattle.config.specs.declared.Places.{Places}
 use Rattle.config.specs.declared.Working.{Working}
-use Rattle.outputs.proofs.Driven.{status-is}
 use Rattle.instrument.specs.Instrument.{alarmOf, sound}
 use Rattle.instrument.specs.Shown.{shownAt, placesAt}
 use Rattle.instrument.specs.declared.Instrument.{Instrument}
@@ -52,10 +51,10 @@ total-size s t k = go (t .range)
 left-over : (r : ℕ) → r < count → (r ≡ at "I" → ⊥) → (r ≡ at "J" → ⊥) → alarmOf r < 4
 left-over r h e n = omega arith
 
--- every number that it shows is smaller than 10 ^ 9 in size
-pub shown-size : (w : Working) (i : Instrument) → sound w i ≡ true → (r : ℕ) → r < count → size (shownAt w i r) < 10 ^ 9
+-- every number that it shows is smaller than 10 ^ 9 in size; of the status that asks no more than the 16 bits that it is stored in
+pub shown-size : (w : Working) (i : Instrument) → sound w i ≡ true → (r : ℕ) → r < count → (r ≡ at "J" → i .outputs .status < 2 ^ 16) → size (shownAt w i r) < 10 ^ 9
 unfolding shownAt
-shown-size w i e r h =
+shown-size w i e r h s =
     let p = tested w i e in
     let m = p .measured in
     let small : Reading → Type 0 = λ x. size x < 10 ^ 9 in
@@ -64,7 +63,7 @@ shown-size w i e r h =
     (either small (eqb r (at "C")) (display-size (extremes.shown (i .measured .max)) (sound-parts (i .measured .max) (m .max) .0))
     (either small (eqb r (at "D")) (display-size (extremes.shown (i .measured .min)) (sound-parts (i .measured .min) (m .min) .0))
     (chosen small (eqb r (at "I")) (λ t. omega (arith, from-to (i .outputs .code) 0 4095 (p .outputs .code) .1 .1))
-    (λ t. chosen small (eqb r (at "J")) (λ u. omega (arith, status-is (i .outputs .mode) (i .alarms) (p .outputs .bits) .small))
+    (λ t. chosen small (eqb r (at "J")) (λ u. omega (arith, s (eqb-true r (at "J") u)))
     (λ u. omega (arith, display-small (setpointOf (i .alarms) (alarmOf r)) (p .alarms .setpoints (alarmOf r) (left-over r h (eqb-false r (at "I") t) (eqb-false r (at "J") u))))))))))
 
 -- ---- places

@@ -34,7 +34,7 @@ use Rattle.outputs.specs.Outputs as outputs
 use Rattle.outputs.specs.Meaning as outputs-by-part
 use Rattle.outputs.specs.declared.Outputs.{Outputs}
 use Rattle.outputs.proofs.Laws as outputs-sound
-use Rattle.instrument.specs.Instrument.{withMeasured, withAlarms, withOutputs, alarmOf, poweredUp, read, sampled, resetRegister, resetAlarms, batched, writeRegister, writeStatus, sound}
+use Rattle.instrument.specs.Instrument.{withMeasured, withAlarms, withReset, withOutputs, alarmOf, poweredUp, read, sampled, resetRegister, resetAlarms, batched, writeRegister, writeStatus, sound}
 use Rattle.instrument.specs.Meaning.{Sound}
 use Rattle.instrument.specs.declared.Instrument.{Instrument}
 use Rattle.instrument.proofs.Limits.{holds-is}
@@ -82,13 +82,18 @@ module _ (w : Working) (i : Instrument) (p : Sound w i) where
   pub with-outputs-sound : (o : Outputs) → outputs-by-part.Sound o → Sound w (withOutputs i o)
   with-outputs-sound o q = record { measured = p .measured; alarms = p .alarms; outputs = q }
 
+  -- alarms that were reset
+  with-reset-sound : (l : List Alarm) → alarms-by-part.Sound l → Sound w (withReset i l)
+  with-reset-sound l q =
+      record { measured = p .measured; alarms = q; outputs = outputs-sound.alarms-reset-sound (i .outputs) (p .outputs) (alarms.onBits l) }
+
   -- a sample whose reading can be displayed
   pub sampled-sound : (r : Reading) → displayable r ≡ true → Sound w (sampled w i r)
   sampled-sound r e =
       record {
         measured = measured-sound.sampled-sound w (i .measured) (p .measured) r e;
         alarms = alarms-sound.all-sampled-sound (i .alarms) (p .alarms) (w .alarms) r;
-        outputs = outputs-sound.sampled-sound (i .outputs) (p .outputs) w r;
+        outputs = outputs-sound.sampled-sound (i .outputs) (p .outputs) w _ r;
       }
 
   -- key 1
@@ -97,7 +102,7 @@ module _ (w : Working) (i : Instrument) (p : Sound w i) where
 
   -- key 5
   pub reset-alarms-sound : Sound w (resetAlarms w i)
-  reset-alarms-sound = with-alarms-sound _ (alarms-sound.all-reset-sound (i .alarms) (p .alarms))
+  reset-alarms-sound = with-reset-sound _ (alarms-sound.all-reset-sound (i .alarms) (p .alarms))
 
   -- R of any register that it takes
   pub reset-register-sound : (r : ℕ) → r ≤ at "H" → Sound w (resetRegister w i r)
@@ -106,7 +111,7 @@ module _ (w : Working) (i : Instrument) (p : Sound w i) where
       either (Sound w) (eqb r (at "B")) (with-measured-sound _ (measured-sound.reset-total-sound w (i .measured) (p .measured)))
       (either (Sound w) (eqb r (at "C")) (with-measured-sound _ (measured-sound.reset-max-sound w (i .measured) (p .measured)))
       (either (Sound w) (eqb r (at "D")) (with-measured-sound _ (measured-sound.reset-min-sound w (i .measured) (p .measured)))
-      (with-alarms-sound _ (alarms-sound.reset-at-sound (i .alarms) (p .alarms) (alarmOf r) (omega arith)))))
+      (with-reset-sound _ (alarms-sound.reset-at-sound (i .alarms) (p .alarms) (alarmOf r) (omega arith)))))
 
   -- V of a number that the register holds
   pub write-register-sound : (r : ℕ) (z : ℤ) → at "E" ≤ r → r ≤ at "I" → holds (entry r .written) z ≡ true → Sound w (writeRegister w i r z)
@@ -124,11 +129,11 @@ module _ (w : Working) (i : Instrument) (p : Sound w i) where
   pub write-status-sound : (b : ℕ) → Sound w (writeStatus w i b)
   unfolding writeStatus
   write-status-sound b =
-      either (Sound w) (alarms.bit b 4) (with-outputs-sound _ (outputs-sound.to-manual-sound (i .outputs) (p .outputs) b))
+      either (Sound w) (alarms.bit b 4) (with-outputs-sound _ (outputs-sound.to-manual-sound (i .outputs) (p .outputs) _ b))
       (record {
         measured = p .measured;
         alarms = alarms-sound.reset-by-bits-sound (i .alarms) (p .alarms) b;
-        outputs = outputs-sound.to-automatic-sound w (i .measured .reading);
+        outputs = outputs-sound.to-automatic-sound w _ (i .measured .reading);
       })
 
 -- ---- power-up

@@ -32,6 +32,10 @@ withAlarms i l = record { measured = i .measured; alarms = l; outputs = i .outpu
 abbrev pub withOutputs : Instrument → Outputs → Instrument
 withOutputs i o = record { measured = i .measured; alarms = i .alarms; outputs = o }
 
+-- alarms as a reset leaves them, and the outputs that they drive
+abbrev pub withReset : Instrument → List Alarm → Instrument
+withReset i l = withOutputs (withAlarms i l) (outputs.alarmsReset (i .outputs) (alarms.onBits l))
+
 -- ---- power-up: no reading, a sum of 0, nothing kept, alarms off, automatic mode
 
 abbrev pub poweredUp : List ℤ → Instrument
@@ -45,10 +49,11 @@ read s x = readingOf (s .inputs) (s .displays) (natAbs (s .count)) (s .step) x
 
 abbrev pub sampled : Working → Instrument → Reading → Instrument
 sampled w i r =
+    let after = alarms.allSampled (w .alarms) (i .alarms) r in
     record {
       measured = measured.sampled w (i .measured) r;
-      alarms = alarms.allSampled (w .alarms) (i .alarms) r;
-      outputs = outputs.sampled w (i .outputs) r;
+      alarms = after;
+      outputs = outputs.sampled w (i .outputs) (alarms.onBits after) r;
     }
 
 -- ---- R, and keys 2 to 5, which act as the R strings do
@@ -63,11 +68,11 @@ resetRegister w i r =
     cond (eqb r (at "B")) (withMeasured i (measured.resetTotal (i .measured)))
     (cond (eqb r (at "C")) (withMeasured i (measured.resetMax (i .measured)))
     (cond (eqb r (at "D")) (withMeasured i (measured.resetMin (i .measured)))
-    (withAlarms i (alarms.resetAt (i .alarms) (alarmOf r)))))
+    (withReset i (alarms.resetAt (i .alarms) (alarmOf r)))))
 
 -- key 5 resets all alarms
 abbrev pub resetAlarms : Working → Instrument → Instrument
-resetAlarms w i = withAlarms i (alarms.allReset (i .alarms))
+resetAlarms w i = withReset i (alarms.allReset (i .alarms))
 
 -- ---- key 1 in a meter set for batch
 
@@ -87,10 +92,14 @@ writeRegister w i r z =
 
 -- ---- VJ: bit 4 set, manual mode, and all else stands; bit 4 clear, automatic, and each alarm whose bit is 0 is reset
 
+abbrev pub toManual : Instrument → ℕ → Instrument
+toManual i b = withOutputs i (outputs.toManual (i .outputs) (alarms.onBits (i .alarms)) b)
+
+abbrev pub toAutomatic : Working → Instrument → List Alarm → Instrument
+toAutomatic w i l = withOutputs (withAlarms i l) (outputs.toAutomatic w (alarms.onBits l) (i .measured .reading))
+
 unfoldable pub writeStatus : Working → Instrument → ℕ → Instrument
-writeStatus w i b =
-    cond (alarms.bit b 4) (withOutputs i (outputs.toManual (i .outputs) b))
-    (withOutputs (withAlarms i (alarms.resetByBits b (i .alarms))) (outputs.toAutomatic w (i .measured .reading)))
+writeStatus w i b = cond (alarms.bit b 4) (toManual i b) (toAutomatic w i (alarms.resetByBits b (i .alarms)))
 
 -- ---- what showing and counting lean on: the least that has to hold of an instrument
 

@@ -8,18 +8,13 @@ use Rattle.reading.specs.declared.Reading.{Reading}
 use Rattle.reading.specs.declared.Reading.the-variants.{Number}
 use Rattle.total.specs.Total as totals
 use Rattle.extremes.specs.Extremes as extremes
-use Rattle.alarms.specs.Alarms.{setpointOf, onBits}
+use Rattle.alarms.specs.Alarms.{setpointOf}
 use Rattle.config.specs.declared.Places.{Places}
 use Rattle.config.specs.declared.Working.{Working}
-use Rattle.outputs.specs.Outputs as outputs
 use Rattle.instrument.specs.Instrument.{alarmOf}
 use Rattle.instrument.specs.declared.Instrument.{Instrument}
 
--- the status: the alarms that are on, or in manual mode the manual bits, and 16 for manual
-abbrev pub status : Instrument → ℕ
-status i = outputs.status (i .outputs .mode) (onBits (i .alarms))
-
--- what a register shows: INP, TOT, MAX, MIN, AOR, CSR, and from E to H the setpoints
+-- what a register shows: INP, TOT, MAX, MIN, AOR, CSR as it is stored, and from E to H the setpoints
 unfoldable pub shownAt : Working → Instrument → ℕ → Reading
 shownAt w i r =
     cond (eqb r (at "A")) (i .measured .reading)
@@ -27,7 +22,7 @@ shownAt w i r =
     (cond (eqb r (at "C")) (extremes.shown (i .measured .max))
     (cond (eqb r (at "D")) (extremes.shown (i .measured .min))
     (cond (eqb r (at "I")) (Number (i .outputs .code))
-    (cond (eqb r (at "J")) (Number (pos (status i)))
+    (cond (eqb r (at "J")) (Number (pos (i .outputs .status)))
     (Number (setpointOf (i .alarms) (alarmOf r))))))))
 
 -- the total shows with its own places, the analog register and the status with none, all else with the input's

@@ -11,14 +11,14 @@ use reading::Reading;
 ghost use mathlib.Core.Path.{_≡_};
 ghost use mathlib.Core.Bool.{true, false};
 ghost use Prim.Native.Nat.{_≤_, _<_};
-ghost use lib.IntN.{pos, natAbs};
+ghost use lib.IntN.{natAbs};
 ghost use Rattle.exact.specs.Sign.{isNeg, eqZ};
 ghost use Rattle.reading.specs.Reading.{Scalable};
 ghost use Rattle.total.specs.Total.{Timed, inRange};
 ghost use Rattle.register.specs.Registers.{at, count};
 ghost use Rattle.config.specs.Config.{placesRule};
-ghost use Rattle.instrument.specs.Instrument.{poweredUp, read, sampled, resetRegister, resetAlarms, batched, shut, writeRegister, writeStatus, sound, canScale};
-ghost use Rattle.instrument.specs.Shown.{status, shownAt, placesAt};
+ghost use Rattle.instrument.specs.Instrument.{withReset, poweredUp, read, sampled, resetRegister, resetAlarms, batched, shut, writeRegister, writeStatus, sound, canScale};
+ghost use Rattle.instrument.specs.Shown.{shownAt, placesAt};
 
 // All that is kept from one event to the next, the receiver apart: what was measured, the alarms, and how the outputs are driven.
 pub struct Instrument {
@@ -64,12 +64,22 @@ pub fn sampled(working: Working, i: Instrument, reading: Reading) -> Instrument
     let settings = working.alarms;
     let before = i.alarms;
     let alarms = alarms::all_sampled(settings, before, reading);
-    let outputs = outputs::sampled(working, i.outputs, reading);
+    let outputs = outputs::sampled(working, i.outputs, alarms::on_bits(alarms), reading);
     Instrument {
         measured,
         alarms,
         outputs,
     }
+}
+
+// Alarms that were reset, and the outputs that they drive.
+fn with_reset(i: Instrument, alarms: [Alarm; 4]) -> Instrument
+    ensures { λ r. ⌜ r ≡ withReset i alarms ⌝ }
+{
+    let mut n = i;
+    n.alarms = alarms;
+    n.outputs = outputs::alarms_reset(i.outputs, alarms::on_bits(alarms));
+    n
 }
 
 // R of a register, B to H.
@@ -83,10 +93,7 @@ pub fn reset_register(working: Working, i: Instrument, register: usize) -> Instr
         register::TOT => n.measured = measured::reset_total(i.measured),
         register::MAX => n.measured = measured::reset_max(i.measured),
         register::MIN => n.measured = measured::reset_min(i.measured),
-        _ => {
-            let alarms = alarms::reset_at(before, register - register::SP1);
-            n.alarms = alarms;
-        }
+        _ => n = with_reset(i, alarms::reset_at(before, register - register::SP1)),
     }
     n
 }
@@ -96,10 +103,7 @@ pub fn reset_alarms(working: Working, i: Instrument) -> Instrument
     ensures { λ r. ⌜ r ≡ resetAlarms working i ⌝ }
 {
     let before = i.alarms;
-    let alarms = alarms::all_reset(before);
-    let mut n = i;
-    n.alarms = alarms;
-    n
+    with_reset(i, alarms::all_reset(before))
 }
 
 // Key 1 in a meter set for batch.
@@ -146,23 +150,13 @@ pub fn write_status(working: Working, i: Instrument, b: u8) -> Instrument
     let before = i.alarms;
     let mut n = i;
     if alarms::bit(b, 16) {
-        n.outputs = outputs::to_manual(i.outputs, b);
+        n.outputs = outputs::to_manual(i.outputs, alarms::on_bits(before), b);
     } else {
         let alarms = alarms::reset_by_bits(b, before);
         n.alarms = alarms;
-        n.outputs = outputs::to_automatic(working, reading);
+        n.outputs = outputs::to_automatic(working, alarms::on_bits(alarms), reading);
     }
     n
-}
-
-// The status number.
-fn status(i: Instrument) -> i32
-    ensures { λ r. ⌜ r ≡ pos (status i) ⌝ }
-{
-    let outputs = i.outputs;
-    let mode = outputs.mode;
-    let alarms = i.alarms;
-    outputs::status(mode, alarms::on_bits(alarms))
 }
 
 // What T shows of a register.
@@ -183,7 +177,7 @@ pub fn shown_at(working: Working, i: Instrument, register: usize) -> Reading
         register::MAX => extremes::shown(measured.max),
         register::MIN => extremes::shown(measured.min),
         register::AOR => Reading::Number(outputs.code),
-        register::CSR => Reading::Number(status(i)),
+        register::CSR => Reading::Number(outputs.status as i32),
         _ => {
             let k = register - register::SP1;
             let a = alarms[k];

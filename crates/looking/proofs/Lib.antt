@@ -12,6 +12,7 @@ pub mod Replay
 pub mod Asking
 pub mod Looking
 pub mod Captured
+pub mod Status
 pub mod Polls
 pub mod OffDelay
 pub mod Demand

@@ -33,6 +33,7 @@ alike-self c i =
       analog-code = refl;
       mode = refl;
       manual-outputs = refl;
+      status = refl;
     }
 
 node-99 : (c : Config) → judged c ≡ Accepted → nodeOf c ≤ 99

@@ -6,5 +6,6 @@ pub mod Sent
 pub mod Inserted
 pub mod Looking
 pub mod Captured
+pub mod Status
 pub mod Polls
 pub mod Demand

@@ -55,6 +55,8 @@ pub record Alike (c : Config) (i j : Instrument) : Type 0 where
   pub analog-code : i .outputs .code ≡ j .outputs .code
   pub mode : i .outputs .mode ≡ j .outputs .mode
   pub manual-outputs : outputsOf (i .outputs .mode) ≡ outputsOf (j .outputs .mode)
+  -- the number that is stored of the outputs that are driven
+  pub status : i .outputs .status ≡ j .outputs .status
 
 -- the kept list as a history of its own, with nothing lent: each string is sent byte by byte, and a star ends it
 abbrev pub playing : Entry → History → History

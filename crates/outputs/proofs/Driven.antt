@@ -10,8 +10,8 @@ use Rattle.alarm.specs.declared.Alarm.{Alarm}
 use Rattle.alarms.specs.Alarms.{bit, onBits}
 use Rattle.alarms.proofs.Bits.{on-bits-is}
 use Rattle.alarms.proofs.Four.{each-of-four}
-use Rattle.outputs.specs.Outputs.{status, bitsIn}
-use Rattle.outputs.specs.Meaning.{IsStatus}
+use Rattle.outputs.specs.Outputs.{status}
+use Rattle.outputs.specs.Meaning.{bitsIn, IsStatus}
 use Rattle.outputs.specs.declared.Mode.{Mode}
 use Rattle.outputs.specs.declared.Mode.the-variants.{Automatic, Manual}
 

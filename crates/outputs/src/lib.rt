@@ -1,12 +1,11 @@
-// How the outputs are driven: the analog code, and automatic or manual mode.
+// How the outputs are driven: the analog code, automatic or manual mode, and the status number, which is stored with them.
 use config::Working;
 use reading::Reading;
 ghost use mathlib.Core.Path.{_≡_};
 ghost use mathlib.Core.Bool.{false};
 ghost use Prim.Native.Nat.{_≤_};
-ghost use lib.IntN.{pos};
 ghost use Rattle.exact.specs.Sign.{eqZ};
-ghost use Rattle.outputs.specs.Outputs.{poweredUp, sampled, coded, automatic, writeCode, toManual, toAutomatic, status, inCode, bitsIn, sound};
+ghost use Rattle.outputs.specs.Outputs.{status, driving, poweredUp, sampled, coded, alarmsReset, automatic, writeCode, toManual, toAutomatic, inCode, sound};
 
 // Automatic, or manual with the four outputs as bits 0 to 3.
 pub enum Mode {
@@ -14,19 +13,41 @@ pub enum Mode {
     Manual(u8),
 }
 
+// The status has 16 bits, which hold 16 and any byte of manual outputs.
 pub struct Outputs {
     pub code: i32,
     pub mode: Mode,
+    pub status: u16,
 }
 
-// Automatic mode with code 0.
+// The status number, with the alarms that are on as bits.
+fn status(mode: Mode, on: u32) -> u16
+    requires { ⌜ on ≤ 15 ⌝ }
+    ensures { λ r. ⌜ r ≡ status mode on ⌝ }
+{
+    match mode {
+        Mode::Automatic => on as u16,
+        Mode::Manual(bits) => 16 + bits as u16,
+    }
+}
+
+// New outputs: the one place where a status is worked out, and it is stored at once.
+fn driving(code: i32, mode: Mode, on: u32) -> Outputs
+    requires { ⌜ on ≤ 15 ⌝ }
+    ensures { λ r. ⌜ r ≡ driving code mode on ⌝ }
+{
+    Outputs {
+        code,
+        mode,
+        status: status(mode, on),
+    }
+}
+
+// Automatic mode with code 0, and no alarm on.
 pub fn powered_up() -> Outputs
     ensures { λ r. ⌜ r ≡ poweredUp ⌝ }
 {
-    Outputs {
-        code: 0,
-        mode: Mode::Automatic,
-    }
+    driving(0, Mode::Automatic, 0)
 }
 
 // The analog code: worked out in automatic mode, left standing in manual mode.
@@ -41,14 +62,23 @@ fn coded(working: Working, mode: Mode, code: i32, reading: Reading) -> i32
     }
 }
 
-// A sample whose reading is known.
-pub fn sampled(working: Working, o: Outputs, reading: Reading) -> Outputs
+// A sample whose reading is known, with the alarms that it leaves on.
+pub fn sampled(working: Working, o: Outputs, on: u32, reading: Reading) -> Outputs
     requires { ⌜ eqZ (working .analog .low) (working .analog .high) ≡ false ⌝ }
-    ensures { λ r. ⌜ r ≡ sampled working o reading ⌝ }
+    requires { ⌜ on ≤ 15 ⌝ }
+    ensures { λ r. ⌜ r ≡ sampled working o on reading ⌝ }
 {
     let mode = o.mode;
-    let code = coded(working, mode, o.code, reading);
-    Outputs { code, mode }
+    driving(coded(working, mode, o.code, reading), mode, on)
+}
+
+// A reset of alarms, with those that it leaves on.
+pub fn alarms_reset(o: Outputs, on: u32) -> Outputs
+    requires { ⌜ on ≤ 15 ⌝ }
+    ensures { λ r. ⌜ r ≡ alarmsReset o on ⌝ }
+{
+    let mode = o.mode;
+    driving(o.code, mode, on)
 }
 
 // Whether the mode is automatic.
@@ -65,41 +95,31 @@ pub fn is_automatic(mode: Mode) -> bool
 pub fn write_code(o: Outputs, z: i32) -> Outputs
     ensures { λ r. ⌜ r ≡ writeCode o z ⌝ }
 {
-    let mode = o.mode;
-    Outputs { code: z, mode }
+    let mut n = o;
+    n.code = z;
+    n
 }
 
 // VJ with bit 4 set: the four bits below it drive the outputs, and the last code stands.
-pub fn to_manual(o: Outputs, b: u8) -> Outputs
-    ensures { λ r. ⌜ r ≡ toManual o b ⌝ }
+pub fn to_manual(o: Outputs, on: u32, b: u8) -> Outputs
+    requires { ⌜ on ≤ 15 ⌝ }
+    ensures { λ r. ⌜ r ≡ toManual o on b ⌝ }
 {
-    Outputs {
-        code: o.code,
-        mode: Mode::Manual(b % 16),
-    }
+    driving(o.code, Mode::Manual(b % 16), on)
 }
 
 // VJ with bit 4 clear: the code of the present reading at once.
-pub fn to_automatic(working: Working, reading: Reading) -> Outputs
+pub fn to_automatic(working: Working, on: u32, reading: Reading) -> Outputs
     requires { ⌜ eqZ (working .analog .low) (working .analog .high) ≡ false ⌝ }
-    ensures { λ r. ⌜ r ≡ toAutomatic working reading ⌝ }
+    requires { ⌜ on ≤ 15 ⌝ }
+    ensures { λ r. ⌜ r ≡ toAutomatic working on reading ⌝ }
 {
     let analog = working.analog;
-    Outputs {
-        code: analog::code_of(analog.low, analog.high, reading),
-        mode: Mode::Automatic,
-    }
-}
-
-// The status number, with the alarms that are on as bits.
-pub fn status(mode: Mode, on: u32) -> i32
-    requires { ⌜ on ≤ 15 ⌝ }
-    ensures { λ r. ⌜ r ≡ pos (status mode on) ⌝ }
-{
-    match mode {
-        Mode::Automatic => on as i32,
-        Mode::Manual(bits) => 16 + bits as i32,
-    }
+    driving(
+        analog::code_of(analog.low, analog.high, reading),
+        Mode::Automatic,
+        on,
+    )
 }
 
 // Whether a number is an analog code.
@@ -109,20 +129,9 @@ fn in_code(z: i32) -> bool
     (0 <= z) & (z <= 4095)
 }
 
-// Whether the manual outputs are four bits.
-fn bits_in(mode: Mode) -> bool
-    ensures { λ r. ⌜ r ≡ bitsIn mode ⌝ }
-{
-    match mode {
-        Mode::Automatic => true,
-        Mode::Manual(bits) => bits <= 15,
-    }
-}
-
-// Whether code and mode are ones that can be shown.
+// Whether the code is one that can be shown.
 pub fn is_sound(o: Outputs) -> bool
     ensures { λ r. ⌜ r ≡ sound o ⌝ }
 {
-    let mode = o.mode;
-    in_code(o.code) & bits_in(mode)
+    in_code(o.code)
 }

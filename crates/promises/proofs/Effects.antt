@@ -55,7 +55,7 @@ module _ (t : Talking) (w : Working) (i : Instrument) where
   abbrev ByKey : Effect → Type 0
   ByKey = Upon w i KeyRefusal
 
-  pressed-upon : (k : ℤ) → ByKey (pressed t w i k)
+  pub pressed-upon : (k : ℤ) → ByKey (pressed t w i k)
   pressed-upon k =
       either ByKey (eqZ k (pos 1)) (either (λ s. ByKey (stands s)) (w .totalizer .batch) (done by-batch) (refused UnknownKey refl))
       (either ByKey (eqZ k (pos 2)) (done (by-reset (at "B") (omega arith)))
@@ -76,7 +76,7 @@ module _ (t : Talking) (w : Working) (i : Instrument) where
   carried-upon (Status b) h = done (by-status b)
   carried-upon BadString h = refused BadForm (inl (omega arith, omega arith))
 
-  addressed-upon : (s : List ℕ) (p : Parsed) → parse s ≡ p → ByString (addressed t w i p)
+  pub addressed-upon : (s : List ℕ) (p : Parsed) → parse s ≡ p → ByString (addressed t w i p)
   addressed-upon s NoNode e = refused BadForm (inl (omega arith, omega arith))
   addressed-upon s (To n a) e =
       either ByString (eqb n (natAbs (t .node))) (carried-upon a (understood .permitted s n a e .1)) (refused OtherNode (inl (omega arith, omega arith)))

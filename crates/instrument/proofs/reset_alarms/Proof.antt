@@ -1,13 +1,17 @@
--- `instrument::reset_alarms` meets its contract: the alarms are what the callee ensures, all else stands. Assumes nothing.
+-- `instrument::reset_alarms` meets its contract: what the callees ensure, one on the other. Assumes nothing.
 use borrow.Author.Needs.{needs}
+use mathlib.Core.Path.{_∙_}
 use Rattle.instrument.proofs.reset_alarms.Statement.{statement}
 use Rattle.instrument.proofs.reset_alarms.Tie as tie
 
 all-reset-requires : tie.Need-all-reset-requires
 all-reset-requires c κs = search needs
 
+with-reset-requires : tie.Need-with-reset-requires
+with-reset-requires c κs = search needs
+
 returns : tie.Need-returns
-returns c = rw (c .all-reset .ensures)
+returns c = c .with-reset .ensures ∙ rw (c .before .all-reset .ensures)
 
 pub reset-alarms-spec : {M : Type 1} → statement M
-reset-alarms-spec = tie.close (tie.spec all-reset-requires returns)
+reset-alarms-spec = tie.close (tie.spec all-reset-requires with-reset-requires returns)

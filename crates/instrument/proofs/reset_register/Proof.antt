@@ -20,6 +20,9 @@ sub-reset-at c = search needs
 reset-at-requires : tie.Need-reset-at-requires
 reset-at-requires c κs = search needs
 
+with-reset-requires : tie.Need-with-reset-requires
+with-reset-requires c κs = search needs
+
 returns : tie.Need-returns
 unfolding resetRegister
 returns c = rw (c .before .match .keys1, c .reset-total .ensures)
@@ -35,8 +38,8 @@ returns-3 c = rw (c .before .match .keys3, c .reset-min .ensures)
 returns-4 : tie.Need-returns-4
 unfolding resetRegister
 returns-4 c =
-    let m = c .before .match .rest in
-    rw (ne-eqb _ 1 (m .0 .0 .1), ne-eqb _ 2 (m .0 .1), ne-eqb _ 3 (m .1), c .reset-at .ensures)
+    let m = c .before .before .match .rest in
+    rw (ne-eqb _ 1 (m .0 .0 .1), ne-eqb _ 2 (m .0 .1), ne-eqb _ 3 (m .1), c .with-reset .ensures, c .before .reset-at .ensures)
 
 pub reset-register-spec : {M : Type 1} → statement M
 reset-register-spec =
@@ -47,6 +50,7 @@ reset-register-spec =
     reset-min-requires
     sub-reset-at
     reset-at-requires
+    with-reset-requires
     returns
     returns-2
     returns-3

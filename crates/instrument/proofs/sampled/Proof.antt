@@ -9,14 +9,18 @@ sampled-requires c κs = search needs
 all-sampled-requires : tie.Need-all-sampled-requires
 all-sampled-requires c κs = search needs
 
+on-bits-requires : tie.Need-on-bits-requires
+on-bits-requires c κs = search needs
+
 sampled-requires-2 : tie.Need-sampled-requires-2
 sampled-requires-2 c κs = search needs
 
 returns : tie.Need-returns
 returns c =
-    let alarms = c .before in
-    rw (alarms .before .before .before .sampled .ensures, alarms .all-sampled .ensures, c .sampled2 .ensures)
+    let on = c .before in
+    let alarms = on .before in
+    rw (alarms .before .before .before .sampled .ensures, c .sampled2 .ensures, on .on-bits .ensures .0, alarms .all-sampled .ensures)
 
 pub sampled-spec : {M : Type 1} → statement M
 sampled-spec =
-    tie.close (tie.spec sampled-requires all-sampled-requires sampled-requires-2 returns)
+    tie.close (tie.spec sampled-requires all-sampled-requires on-bits-requires sampled-requires-2 returns)

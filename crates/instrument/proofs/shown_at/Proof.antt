@@ -2,9 +2,10 @@
 use borrow.Author.Needs.{needs}
 use borrow.Author.Tests.{ne-eqb}
 use native.Mathlib.Omega.{arith}
-use mathlib.Core.Path.{_≡_, ap, _∙_}
+use mathlib.Core.Path.{_≡_, ap}
 use Prim.Native.Nat.{ℕ, _*_, _-_, _<_}
-use mir.Syntax.{w64}
+use mir.Facts.{toZ-pos}
+use mir.Syntax.{w32, w64}
 use mir.Val.{Fits}
 use Rattle.exact.proofs.Z.{back32}
 use Rattle.reading.specs.declared.Reading.the-variants.{Number}
@@ -21,8 +22,8 @@ shown-requires-2 c κs = search needs
 shown-requires-3 : tie.Need-shown-requires-3
 shown-requires-3 c κs = search needs
 
-status-requires : tie.Need-status-requires
-status-requires c κs = search needs
+cast-status : tie.Need-cast-t12
+cast-status c = search needs
 
 sub-k : tie.Need-sub-k
 sub-k c = search needs
@@ -65,7 +66,7 @@ returns-5 c = rw (c .before .match .keys5) (ap Number (back32 _ (c .struct-told 
 
 returns-6 : tie.Need-returns-6
 unfolding shownAt
-returns-6 c = rw (c .before .match .keys6) (ap Number (back32 (c .status .result) (c .status .ok) ∙ c .status .ensures))
+returns-6 c = rw (c .before .match .keys6) (ap Number (toZ-pos w32 (omega (arith, c .struct-known .given))))
 
 returns-7 : tie.Need-returns-7
 unfolding shownAt
@@ -88,7 +89,7 @@ shown-at-spec =
     shown-requires
     shown-requires-2
     shown-requires-3
-    status-requires
+    cast-status
     sub-k
     mul-a
     array-copy-out-a

@@ -9,11 +9,17 @@ use Rattle.instrument.proofs.write_status.Tie as tie
 bit-requires : tie.Need-bit-requires
 bit-requires c κs = search needs
 
+on-bits-requires : tie.Need-on-bits-requires
+on-bits-requires c κs = search needs
+
 to-manual-requires : tie.Need-to-manual-requires
 to-manual-requires c κs = search needs
 
 reset-by-bits-requires : tie.Need-reset-by-bits-requires
 reset-by-bits-requires c κs = search needs
+
+on-bits-requires-2 : tie.Need-on-bits-requires-2
+on-bits-requires-2 c κs = search needs
 
 to-automatic-requires : tie.Need-to-automatic-requires
 to-automatic-requires c κs = search needs
@@ -24,21 +30,31 @@ test c = c .bit .ensures
 
 returns : tie.Need-returns
 unfolding writeStatus
-returns c = rw (sym (test (c .before .before)) ∙ c .before .if1 .taken, c .to-manual .ensures)
+returns c =
+    let on = c .before in
+    rw (sym (test (on .before .before)) ∙ on .before .if1 .taken, c .to-manual .ensures, on .on-bits .ensures .0)
 
 returns-2 : tie.Need-returns-2
 unfolding writeStatus
 returns-2 c =
-    let alarms = c .before in
-    rw (sym (test (alarms .before .before)) ∙ alarms .before .if1 .left, alarms .reset-by-bits .ensures, c .to-automatic .ensures)
+    let on = c .before in
+    let alarms = on .before in
+    rw (
+      sym (test (alarms .before .before)) ∙ alarms .before .if1 .left,
+      c .to-automatic .ensures,
+      on .on-bits2 .ensures .0,
+      alarms .reset-by-bits .ensures,
+    )
 
 pub write-status-spec : {M : Type 1} → statement M
 write-status-spec =
     tie.close
     (tie.spec
     bit-requires
+    on-bits-requires
     to-manual-requires
     reset-by-bits-requires
+    on-bits-requires-2
     to-automatic-requires
     returns
     returns-2)

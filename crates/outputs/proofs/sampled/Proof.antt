@@ -1,6 +1,6 @@
--- `outputs::sampled` meets its contract: the code is what the callee ensures, and the mode stands. Assumes nothing.
+-- `outputs::sampled` meets its contract: the code is what the one callee ensures, and the rest what the other does. Assumes nothing.
 use borrow.Author.Needs.{needs}
-use mathlib.Core.Path.{_≡_}
+use mathlib.Core.Path.{_≡_, _∙_}
 use mir.Syntax.{w32}
 use mir.Val.{toZ, ofZ}
 use Rattle.exact.proofs.Z.{back32}
@@ -10,11 +10,15 @@ use Rattle.outputs.proofs.sampled.Tie as tie
 coded-requires : tie.Need-coded-requires
 coded-requires c κs = search needs
 
+driving-requires : tie.Need-driving-requires
+driving-requires c κs = search needs
+
 returns : tie.Need-returns
 returns c =
-    let o = c .before .before .args .o in
+    let k = c .before in
+    let o = k .before .before .args .o in
     let code : toZ w32 (ofZ w32 (o .code)) ≡ o .code = search needs in
-    rw (back32 (c .coded .result) (c .coded .ok), c .coded .ensures, code)
+    c .driving .ensures ∙ rw (back32 (k .coded .result) (k .coded .ok), k .coded .ensures, code)
 
 pub sampled-spec : {M : Type 1} → statement M
-sampled-spec = tie.close (tie.spec coded-requires returns)
+sampled-spec = tie.close (tie.spec coded-requires driving-requires returns)

@@ -1,5 +1,6 @@
 -- `effect::reply::read` meets its contract: what is shown fits a line, and the line is written as a whole reply. Assumes nothing.
 use borrow.Author.Needs.{needs}
+use native.Mathlib.Omega.{arith}
 use mathlib.Core.Path.{_≡_, _∙_}
 use Rattle.line.specs.Line.{line}
 use Rattle.effect.specs.Reply.{readReply}
@@ -20,7 +21,7 @@ write-line-requires : tie.Need-write-line-requires
 write-line-requires c κs =
     let s = c .before .before .before .before .before .before in
     rw (c .before .before .before .before .style .ensures, c .before .before .places-at .ensures, c .before .shown-at .ensures)
-    (writable (s .args .talking) (s .args .working) (s .args .i) (s .pre .0) (s .args .register) (s .pre .1))
+    (writable (s .args .talking) (s .args .working) (s .args .i) (s .pre .0) (omega (arith, s .good .1 .1 .0)) (s .args .register) (s .pre .1))
 
 same-length : tie.Need-same-length
 same-length c = search needs
