@@ -40,7 +40,7 @@ gathered i = status (i .outputs .mode) (onBits (i .alarms))
 
 -- the number that is stored is that one, and in manual mode four bits are driven. No test asks for it: power-up makes it so, and
 -- whatever changes an instrument leaves it so
-pub record Kept (i : Instrument) : Type 0 where
+pub record StatusKept (i : Instrument) : Type 0 where
   pub stored : i .outputs .status ≡ gathered i
   pub bits : outputs.bitsIn (i .outputs .mode) ≡ true
 

@@ -11,7 +11,7 @@ use Rattle.config.specs.declared.Working.{Working}
 use Rattle.config.specs.declared.Verdict.the-variants.{Accepted}
 use Rattle.command.specs.Parse.{parse}
 use Rattle.line.specs.Line.{line}
-use Rattle.instrument.specs.Meaning.{Kept}
+use Rattle.instrument.specs.Meaning.{StatusKept}
 use Rattle.instrument.specs.Shown.{shownAt, placesAt}
 use Rattle.instrument.specs.declared.Instrument.{Instrument}
 use Rattle.instrument.proofs.Status.{powered-up-kept, sampled-kept, batched-kept, reset-register-kept, reset-alarms-kept, write-register-kept, write-status-kept, kept-is}
@@ -25,21 +25,21 @@ use Rattle.looking.proofs.State.{holds}
 
 -- ---- what an effect leaves
 
-changed-kept : {w : Working} {i : Instrument} → Kept i → {j : Instrument} → Changed w i j → Kept j
+changed-kept : {w : Working} {i : Instrument} → StatusKept i → {j : Instrument} → Changed w i j → StatusKept j
 changed-kept {w} {i} p by-batch = batched-kept w i p
 changed-kept {w} {i} p (by-reset r top) = reset-register-kept w i p r
 changed-kept {w} {i} p by-alarms = reset-alarms-kept w i p
 changed-kept {w} {i} p (by-write r z low top held) = write-register-kept w i p r z
 changed-kept {w} {i} p (by-status b) = write-status-kept w i p b
 
-left-kept : {w : Working} {i : Instrument} {Refusal : ℕ → Type 0} {e : Effect} → Kept i → Upon w i Refusal e → Kept (leaves e)
+left-kept : {w : Working} {i : Instrument} {Refusal : ℕ → Type 0} {e : Effect} → StatusKept i → Upon w i Refusal e → StatusKept (leaves e)
 left-kept p (done c) = changed-kept p c
 left-kept p (refused a r) = p
 left-kept p (reply text) = p
 
 -- ---- what a kept list gives
 
-given-kept : (c : Config) (ks : List Entry) → Kept (given c ks)
+given-kept : (c : Config) (ks : List Entry) → StatusKept (given c ks)
 given-kept c [] = powered-up-kept (c .setpoints)
 given-kept c (measured x ∷ ks) = sampled-kept (c .working) (given c ks) (given-kept c ks) _
 given-kept c (pressed k ∷ ks) = left-kept (given-kept c ks) (pressed-upon (c .talking) (c .working) (given c ks) k)
@@ -47,7 +47,7 @@ given-kept c (told s ∷ ks) = left-kept (given-kept c ks) (addressed-upon (c .t
 
 -- ---- so after a history
 
-stored : (c : Config) (i : Instrument) → Kept i → Stored c i
+stored : (c : Config) (i : Instrument) → StatusKept i → Stored c i
 unfolding readReply shownAt placesAt
 stored c i p =
     record {
@@ -57,4 +57,4 @@ stored c i p =
     }
 
 pub status-stored : (c : Config) → judged c ≡ Accepted → StatusStored c
-status-stored c accepted h = stored c _ (subst Kept (sym (holds c accepted h)) (given-kept c (kept c h)))
+status-stored c accepted h = stored c _ (subst StatusKept (sym (holds c accepted h)) (given-kept c (kept c h)))

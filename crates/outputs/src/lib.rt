@@ -13,7 +13,7 @@ pub enum Mode {
     Manual(u8),
 }
 
-// The status has 16 bits, which hold 16 and any byte of manual outputs.
+// The status has 16 bits: they hold 16 and any byte of manual outputs, and whatever they hold fits a line.
 pub struct Outputs {
     pub code: i32,
     pub mode: Mode,
