@@ -10,6 +10,7 @@ use super::random::Random;
 use super::samples;
 use super::script::Script;
 use super::settings::good_settings;
+use super::status;
 use super::strings;
 
 /// About how many bytes of text a plain history has.
@@ -56,9 +57,14 @@ fn plain_history(mut random: Random, wanted: Wanted, first_of_all: bool) -> Vec<
     script.into_text()
 }
 
+/// A power-up, at times with a read of the status register at once, since no
+/// other line shows what the meter before may have left in it.
 fn new_power_up(script: &mut Script) {
     let settings = good_settings(&mut script.random);
     script.power_up(settings);
+    if script.random.one_in(8) {
+        status::read_status(script);
+    }
 }
 
 /// Several power-ups that are refused, with an event behind some of them.
@@ -96,7 +102,7 @@ fn any_action(script: &mut Script, wanted: Wanted) {
     }
     match script
         .random
-        .weighted(&[14, 16, 8, 10, 22, 9, 7, 5, 5, 5, 5, 6, 9, 3, 3, 1])
+        .weighted(&[14, 16, 8, 10, 22, 9, 7, 5, 5, 5, 5, 6, 9, 3, 3, 4, 1])
     {
         0 => samples::loose_samples(script),
         1 => samples::excursion(script),
@@ -113,6 +119,7 @@ fn any_action(script: &mut Script, wanted: Wanted) {
         12 => strings::any_key(script),
         13 => limits::codes(script),
         14 => limits::held_within_a_run(script),
+        15 => status::status_behind_events(script),
         _ if wanted.bad_lines => {
             let line = bad_line(&mut script.random, &script.settings);
             script.line(&line);

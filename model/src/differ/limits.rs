@@ -12,8 +12,8 @@ pub const HIGHEST_SETPOINT: i64 = 99_999;
 const HIGHEST_CODE: i64 = 4_095;
 
 /// An input that reads Under, and one that reads Over.
-const UNDER: i64 = -100_000;
-const OVER: i64 = 100_000;
+pub const UNDER: i64 = -100_000;
+pub const OVER: i64 = 100_000;
 
 /// A number for a setpoint at or beside a limit, or past it. The 0 is what the
 /// first number past the highest limit comes to, and the first past five digits
@@ -66,7 +66,7 @@ pub fn codes(script: &mut Script) {
 }
 
 /// VJ with this byte, and with any of the four low bits.
-fn set_status(script: &mut Script, byte: u8) {
+pub fn set_status(script: &mut Script, byte: u8) {
     let bits = script.random.below(16) as u8;
     strings::own_string(script, &[b'V', b'J', byte + bits]);
 }

@@ -15,6 +15,7 @@ pub mod samples;
 pub mod script;
 pub mod settings;
 pub mod shorten;
+pub mod status;
 pub mod strings;
 pub mod tally;
 pub mod write_tally;
