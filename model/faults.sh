@@ -19,7 +19,7 @@ seed=${SEED:-1}
 events=${EVENTS:-3000000}
 copy=target/faults
 
-# Makes the model keep the status number, as the core does by ticket 11: 0 at
+# Makes the model keep the status number, as the core does since document 02: 0 at
 # first, and stored anew by a sample, by VJ, by RE to RH and by key 5. The model
 # itself gathers it at each read, and has no place for the faults of keeping it.
 keep_status='
