@@ -1,4 +1,3 @@
 pub mod Able
 pub mod Shows
 pub mod Prints
-pub mod Lines

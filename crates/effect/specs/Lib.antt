@@ -3,4 +3,3 @@ pub mod Values
 pub mod Effect
 pub mod Able
 pub mod Prints
-pub mod Lines

@@ -3,6 +3,7 @@ pub mod Effects
 pub mod Settling
 pub mod Answers
 pub mod Rows
+pub mod Lines
 pub mod Exactly
 pub mod Leaves
 pub mod StaysSound

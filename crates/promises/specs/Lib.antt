@@ -1,5 +1,6 @@
 pub mod Calls
 pub mod Rows
+pub mod Lines
 pub mod Leaves
 pub mod Exactly
 pub mod Started
