@@ -1,4 +1,1 @@
-pub mod Sayings
-pub mod Cases
 pub mod Stream
-pub mod Pieces

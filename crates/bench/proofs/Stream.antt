@@ -12,10 +12,10 @@ use Rattle.text.proofs.Lines.{heard-is}
 use Rattle.meter.specs.Meter.{Step, sampled}
 use Rattle.meter.specs.declared.Meter.{Meter}
 use Rattle.meter.specs.declared.Outcome.{Outcome}
-use Rattle.bench.specs.Grammar.{judged}
-use Rattle.bench.specs.Show.{shownOf}
+use Rattle.bench_line.specs.Grammar.{judged}
+use Rattle.bench_line.specs.Show.{shownOf}
 use Rattle.bench.specs.Bench.{sampleStep, byteStep, bytesOn, asTold, answered, effectBy, effect, stand, standAfter, heardBy}
-use Rattle.bench.specs.declared.grammar.Parsed.{Parsed}
+use Rattle.bench_line.specs.declared.grammar.Parsed.{Parsed}
 use Rattle.bench.specs.declared.Told.{Told}
 
 -- ---- a sample, whose outcome touches no reply

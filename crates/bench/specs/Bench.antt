@@ -10,11 +10,11 @@ use Rattle.config.specs.Bench.{benchMeter}
 use Rattle.meter.specs.Meter.{Step, poweredUp, sampled, keyed, received}
 use Rattle.meter.specs.declared.Meter.{Meter}
 use Rattle.meter.specs.declared.Outcome.{Outcome}
-use Rattle.bench.specs.Grammar.{parsed}
-use Rattle.bench.specs.Show.{shownOf}
-use Rattle.bench.specs.declared.grammar.Parsed.{Parsed}
-use Rattle.bench.specs.declared.grammar.Parsed.the-variants.{Sample, Key, Bytes, Bad}
-use Rattle.bench.specs.declared.Said.the-variants.{Answered, Unknown}
+use Rattle.bench_line.specs.Grammar.{parsed}
+use Rattle.bench_line.specs.Show.{shownOf}
+use Rattle.bench_line.specs.declared.grammar.Parsed.{Parsed}
+use Rattle.bench_line.specs.declared.grammar.Parsed.the-variants.{Sample, Key, Bytes, Bad}
+use Rattle.bench_line.specs.declared.Said.the-variants.{Answered, Unknown}
 use Rattle.bench.specs.declared.State.{State}
 use Rattle.bench.specs.declared.Told.{Told}
 

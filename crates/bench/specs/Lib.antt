@@ -1,3 +1,1 @@
-pub mod Grammar
 pub mod Bench
-pub mod Show

@@ -2,31 +2,22 @@
 // answer of its last event is printed, after a 2 the reply itself, and `?` for any other line.
 //
 // Standard input is read in blocks, and standard output written in blocks, so the memory is the same for any input.
-mod grammar;
-
 ghost use Prim.Native.Nat.{ℕ, _≤_, _<_};
 ghost use mathlib.Core.Path.{_≡_};
 ghost use mathlib.Core.List.{List};
 ghost use lib.ListN.{length, drop, take};
 ghost use Rattle.text.specs.Line.{heard, goesOn, Carried, Turned, Streamed, finished};
-ghost use Rattle.text.specs.Output.{waiting, puts};
-ghost use Rattle.bench.specs.Grammar.{Payload};
-ghost use Rattle.bench.specs.Show.{numberLine, replyPieces, answerPieces, shownOf};
+ghost use Rattle.text.specs.Output.{waiting};
+ghost use Rattle.bench_line.specs.Grammar.{Payload};
 ghost use Rattle.bench.specs.Bench.{keyStep, byteStep, bytesStep, asTold, effect, standing, heardBy, begun, printedOf};
-use answer::Answer;
-use grammar::Parsed;
+use bench_line::Said;
+use bench_line::grammar::Parsed;
 use libc::STDERR_FILENO;
 use libc::STDIN_FILENO;
 use meter::Meter;
 use meter::Outcome;
 use text::KEPT;
 use text::output::Out;
-
-// What a line is told: the answer of its last event, or that it is no line of this program.
-enum Said {
-    Answered(Answer),
-    Unknown,
-}
 
 // What a line did.
 struct Told {
@@ -104,7 +95,7 @@ fn event(m: Meter, line: &[u8; KEPT], len: usize, reply: &mut [u8]) -> Told
     ensures { λ r. ⌜ r ≡ effect m (now (reply .entry)) (heard (now (line .entry)) len) .told ⌝ }
     ensures { λ _. ⌜ now (reply .exit) ≡ effect m (now (reply .entry)) (heard (now (line .entry)) len) .reply ⌝ }
 {
-    let p = grammar::judge(line, len);
+    let p = bench_line::grammar::judge(line, len);
     match p {
         Parsed::Sample(v) => as_told(m.sample(v)),
         Parsed::Key(v) => as_told(key(m, v, reply)),
@@ -113,46 +104,6 @@ fn event(m: Meter, line: &[u8; KEPT], len: usize, reply: &mut [u8]) -> Told
             meter: m,
             said: Said::Unknown,
         },
-    }
-}
-
-// ---- what is printed
-
-// Puts a number and an LF.
-fn put_number(buf: &mut [u8], o: Out, n: u64) -> Out
-    ensures { λ r. ⌜ waiting (r .at) (now (buf .exit)) ≡ puts (waiting (o .at) (now (buf .entry))) (numberLine n) ⌝ }
-{
-    let p = text::output::put_natural(&mut *buf, o, n);
-    text::output::put(&mut *buf, p, b"\n")
-}
-
-// Puts the first n bytes of the reply, of which there are as many.
-fn put_reply(buf: &mut [u8], o: Out, reply: &[u8], n: usize) -> Out
-    ensures { λ r. ⌜ waiting (r .at) (now (buf .exit)) ≡ puts (waiting (o .at) (now (buf .entry))) (replyPieces n (now (reply .entry))) ⌝ }
-{
-    if n <= reply.len() {
-        return text::output::put(buf, o, &reply[0..n]);
-    }
-    o
-}
-
-fn put_answer(buf: &mut [u8], o: Out, reply: &[u8], a: Answer) -> Out
-    ensures { λ r. ⌜ waiting (r .at) (now (buf .exit)) ≡ puts (waiting (o .at) (now (buf .entry))) (answerPieces a (now (reply .entry))) ⌝ }
-{
-    let number = answer::number(a);
-    let p = put_number(&mut *buf, o, number);
-    if number == 2 {
-        return put_reply(&mut *buf, p, reply, answer::value(a) as usize);
-    }
-    p
-}
-
-fn put_said(buf: &mut [u8], o: Out, reply: &[u8], said: Said) -> Out
-    ensures { λ r. ⌜ waiting (r .at) (now (buf .exit)) ≡ puts (waiting (o .at) (now (buf .entry))) (shownOf said (now (reply .entry))) ⌝ }
-{
-    match said {
-        Said::Answered(a) => put_answer(buf, o, reply, a),
-        Said::Unknown => text::output::put(buf, o, b"?\n"),
     }
 }
 
@@ -165,7 +116,7 @@ fn answered(line: &[u8; KEPT], len: usize, reply: &mut [u8], buf: &mut [u8], s: 
 {
     let t = event(s.meter, line, len, &mut *reply);
     let said = t.said;
-    let out = put_said(buf, s.out, &*reply, said);
+    let out = bench_line::put_said(buf, s.out, &*reply, said);
     let meter = t.meter;
     State { meter, len: 0, out }
 }

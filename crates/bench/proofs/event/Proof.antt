@@ -9,7 +9,7 @@ use lib.ListN.{drop}
 use Rattle.exact.proofs.Z.{back32}
 use Rattle.text.specs.Line.{heard}
 use Rattle.meter.specs.Meter.{sampled}
-use Rattle.bench.specs.declared.grammar.Parsed.the-variants.{Sample, Key, Bytes, Bad}
+use Rattle.bench_line.specs.declared.grammar.Parsed.the-variants.{Sample, Key, Bytes, Bad}
 use Rattle.bench.specs.Bench.{keyStep, bytesStep, asTold, Effect}
 use Rattle.bench.proofs.Stream.{effects, text-is, sampled-told, sampled-reply}
 use Rattle.bench.proofs.event.Statement.{statement}

@@ -1,11 +1,11 @@
--- `bench::grammar::judge` meets its contract: the array and its count are the line. Assumes nothing.
+-- `bench_line::grammar::judge` meets its contract: the array and its count are the line. Assumes nothing.
 use mathlib.Core.Path.{sym, _∙_}
 use native.Mathlib.Omega.{arith}
 use lib.Seq.{length-take-le}
-use Rattle.bench.proofs.Sayings.{judged-long, judged-is, bytes-bad, payload}
+use Rattle.bench_line.proofs.Sayings.{judged-long, judged-is, bytes-bad, payload}
 use borrow.Author.Needs.{needs}
-use Rattle.bench.proofs.grammar.judge.Statement.{statement}
-use Rattle.bench.proofs.grammar.judge.Tie as tie
+use Rattle.bench_line.proofs.grammar.judge.Statement.{statement}
+use Rattle.bench_line.proofs.grammar.judge.Tie as tie
 
 returns : tie.Need-returns
 returns c = (judged-long (c .before .args .line .now) (c .before .args .len) (c .if1 .taken), λ e. absurd (bytes-bad (sym e)))

@@ -1,10 +1,10 @@
--- `bench::grammar::parse` meets its contract: the tests on the way say which case of `parsed` holds. Assumes nothing.
+-- `bench_line::grammar::parse` meets its contract: the tests on the way say which case of `parsed` holds. Assumes nothing.
 use mathlib.Core.Path.{_∙_}
 use native.Mathlib.Omega.{arith}
-use Rattle.bench.proofs.Sayings.{short-bad, long-bad, unspaced-bad, said-is}
+use Rattle.bench_line.proofs.Sayings.{short-bad, long-bad, unspaced-bad, said-is}
 use borrow.Author.Needs.{needs}
-use Rattle.bench.proofs.grammar.parse.Statement.{statement}
-use Rattle.bench.proofs.grammar.parse.Tie as tie
+use Rattle.bench_line.proofs.grammar.parse.Statement.{statement}
+use Rattle.bench_line.proofs.grammar.parse.Tie as tie
 
 returns : tie.Need-returns
 returns c = short-bad (c .before .before .args .s .now) (c .if1 .taken)

@@ -8,8 +8,8 @@ use Rattle.answer.specs.Answer.{number, value}
 use Rattle.answer.specs.declared.Answer.{Answer}
 use Rattle.register.specs.Bytes.{ascii}
 use Rattle.text.specs.Numeral.{numeral}
-use Rattle.bench.specs.declared.Said.{Said}
-use Rattle.bench.specs.declared.Said.the-variants.{Answered, Unknown}
+use Rattle.bench_line.specs.declared.Said.{Said}
+use Rattle.bench_line.specs.declared.Said.the-variants.{Answered, Unknown}
 
 -- a number and an LF
 abbrev pub numberLine : ℕ → List (List ℕ)

@@ -1,12 +1,12 @@
--- `bench::put_answer` meets its contract: a reply comes after a 2 alone. Assumes nothing.
+-- `bench_line::put_answer` meets its contract: a reply comes after a 2 alone. Assumes nothing.
 use mathlib.Core.Path.{sym, _∙_}
 use Rattle.answer.specs.Answer.{number, value}
 use Rattle.text.proofs.Pieces.{next, alike}
-use Rattle.bench.specs.Show.{numberLine, replyPieces}
-use Rattle.bench.proofs.Pieces.{after-2, after-other}
+use Rattle.bench_line.specs.Show.{numberLine, replyPieces}
+use Rattle.bench_line.proofs.Pieces.{after-2, after-other}
 use borrow.Author.Needs.{needs}
-use Rattle.bench.proofs.put_answer.Statement.{statement}
-use Rattle.bench.proofs.put_answer.Tie as tie
+use Rattle.bench_line.proofs.put_answer.Statement.{statement}
+use Rattle.bench_line.proofs.put_answer.Tie as tie
 
 number-requires : tie.Need-number-requires
 number-requires c κs = search needs

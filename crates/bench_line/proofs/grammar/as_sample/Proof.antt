@@ -1,10 +1,10 @@
--- `bench::grammar::as_sample` meets its contract: a number keeps its value. Assumes nothing.
+-- `bench_line::grammar::as_sample` meets its contract: a number keeps its value. Assumes nothing.
 use mathlib.Core.Path.{ap, _∙_}
-use Rattle.bench.specs.declared.grammar.Parsed.the-variants.{Sample}
+use Rattle.bench_line.specs.declared.grammar.Parsed.the-variants.{Sample}
 use Rattle.exact.proofs.Z.{back32}
 use borrow.Author.Needs.{needs}
-use Rattle.bench.proofs.grammar.as_sample.Statement.{statement}
-use Rattle.bench.proofs.grammar.as_sample.Tie as tie
+use Rattle.bench_line.proofs.grammar.as_sample.Statement.{statement}
+use Rattle.bench_line.proofs.grammar.as_sample.Tie as tie
 
 enum-known-n : tie.Need-enum-known-n
 enum-known-n c = search needs

@@ -1,7 +1,7 @@
 // What a line of the bench program says.
 ghost use mathlib.Core.Path.{_≡_};
 ghost use Rattle.text.specs.Line.{heard};
-ghost use Rattle.bench.specs.Grammar.{sampleOf, keyOf, saidOf, parsed, judged, Payload};
+ghost use Rattle.bench_line.specs.Grammar.{sampleOf, keyOf, saidOf, parsed, judged, Payload};
 use text::KEPT;
 use text::Number;
 

@@ -1,10 +1,10 @@
--- `bench::grammar::said` meets its contract: the arm says which letter it is. Assumes nothing.
+-- `bench_line::grammar::said` meets its contract: the arm says which letter it is. Assumes nothing.
 use mathlib.Core.Path.{_∙_, ap}
 use borrow.Author.Tests.{ne-eqb}
-use Rattle.bench.specs.Grammar.{saidOf, sampleOf, keyOf}
+use Rattle.bench_line.specs.Grammar.{saidOf, sampleOf, keyOf}
 use borrow.Author.Needs.{needs}
-use Rattle.bench.proofs.grammar.said.Statement.{statement}
-use Rattle.bench.proofs.grammar.said.Tie as tie
+use Rattle.bench_line.proofs.grammar.said.Statement.{statement}
+use Rattle.bench_line.proofs.grammar.said.Tie as tie
 
 read-number-requires : tie.Need-read-number-requires
 read-number-requires c κs = search needs

@@ -1,10 +1,10 @@
--- `bench::put_number` meets its contract: the numeral and the LF are put one after another. Assumes nothing.
+-- `bench_line::put_number` meets its contract: the numeral and the LF are put one after another. Assumes nothing.
 use mathlib.Core.List.{[], _∷_}
 use Rattle.text.specs.Numeral.{numeral}
 use Rattle.text.proofs.Pieces.{one, next}
 use borrow.Author.Needs.{needs}
-use Rattle.bench.proofs.put_number.Statement.{statement}
-use Rattle.bench.proofs.put_number.Tie as tie
+use Rattle.bench_line.proofs.put_number.Statement.{statement}
+use Rattle.bench_line.proofs.put_number.Tie as tie
 
 put-natural-requires : tie.Need-put-natural-requires
 put-natural-requires c κs = search needs

@@ -1,10 +1,10 @@
--- `bench::grammar::as_key` meets its contract: a number keeps its value. Assumes nothing.
+-- `bench_line::grammar::as_key` meets its contract: a number keeps its value. Assumes nothing.
 use mathlib.Core.Path.{ap, _∙_}
-use Rattle.bench.specs.declared.grammar.Parsed.the-variants.{Key}
+use Rattle.bench_line.specs.declared.grammar.Parsed.the-variants.{Key}
 use Rattle.exact.proofs.Z.{back32}
 use borrow.Author.Needs.{needs}
-use Rattle.bench.proofs.grammar.as_key.Statement.{statement}
-use Rattle.bench.proofs.grammar.as_key.Tie as tie
+use Rattle.bench_line.proofs.grammar.as_key.Statement.{statement}
+use Rattle.bench_line.proofs.grammar.as_key.Tie as tie
 
 enum-known-n : tie.Need-enum-known-n
 enum-known-n c = search needs

@@ -8,8 +8,8 @@ use Rattle.text.specs.Line.{Heard, bytes, long}
 use Rattle.text.specs.Number.{numberOf}
 use Rattle.text.specs.declared.Number.{Number}
 use Rattle.text.specs.declared.Number.the-variants as number
-use Rattle.bench.specs.declared.grammar.Parsed.{Parsed}
-use Rattle.bench.specs.declared.grammar.Parsed.the-variants.{Sample, Key, Bytes, Bad}
+use Rattle.bench_line.specs.declared.grammar.Parsed.{Parsed}
+use Rattle.bench_line.specs.declared.grammar.Parsed.the-variants.{Sample, Key, Bytes, Bad}
 
 abbrev pub sampleOf : Number → Parsed
 sampleOf (number.Is v) = Sample v

@@ -5,9 +5,9 @@ use Prim.Native.Nat.{ℕ}
 use lib.IntN.{pos, negsuc}
 use lib.ListN.{replicate}
 use Rattle.text.specs.Number.{digits, value, naturalOf, signedOf, numberOf, spelled}
-use Rattle.bench.specs.Grammar.{saidOf, parsed}
-use Rattle.bench.specs.declared.grammar.Parsed.{Parsed}
-use Rattle.bench.specs.declared.grammar.Parsed.the-variants.{Sample, Key, Bytes, Bad}
+use Rattle.bench_line.specs.Grammar.{saidOf, parsed}
+use Rattle.bench_line.specs.declared.grammar.Parsed.{Parsed}
+use Rattle.bench_line.specs.declared.grammar.Parsed.the-variants.{Sample, Key, Bytes, Bad}
 
 pub record Row : Type 0 where
   pub line : List ℕ

@@ -1,14 +1,14 @@
--- `bench::put_reply` meets its contract: the reply is put where it has as many bytes. Assumes nothing.
+-- `bench_line::put_reply` meets its contract: the reply is put where it has as many bytes. Assumes nothing.
 use mathlib.Core.Path.{refl, ap, _∙_}
 use mathlib.Core.List.{List, [], _∷_}
 use Prim.Native.Nat.{ℕ}
 use Rattle.text.proofs.Laws.{part}
 use Rattle.text.specs.Output.{waiting, puts}
 use Rattle.text.proofs.Pieces.{one, alike}
-use Rattle.bench.proofs.Pieces.{reply-there, reply-none}
+use Rattle.bench_line.proofs.Pieces.{reply-there, reply-none}
 use borrow.Author.Needs.{needs}
-use Rattle.bench.proofs.put_reply.Statement.{statement}
-use Rattle.bench.proofs.put_reply.Tie as tie
+use Rattle.bench_line.proofs.put_reply.Statement.{statement}
+use Rattle.bench_line.proofs.put_reply.Tie as tie
 
 sub-put : tie.Need-sub-put
 sub-put c = search needs

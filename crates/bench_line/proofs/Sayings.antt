@@ -10,8 +10,8 @@ use borrow.Author.Tests.{le-leb, lt-leb, eq-eqb, ne-eqb, leb-true, leb-false}
 use Rattle.text.specs.Line.{keptBytes, bytes, long, heard, kept}
 use Rattle.text.proofs.Laws.{rest}
 use Rattle.text.proofs.Lines.{heard-is, heard-long}
-use Rattle.bench.specs.Grammar.{saidOf, parsed, judged, Payload}
-use Rattle.bench.specs.declared.grammar.Parsed.the-variants.{Bytes, Bad}
+use Rattle.bench_line.specs.Grammar.{saidOf, parsed, judged, Payload}
+use Rattle.bench_line.specs.declared.grammar.Parsed.the-variants.{Bytes, Bad}
 
 pub bytes-bad : Bytes ≡ Bad → ⊥
 bytes-bad e = let z : _≡_ {A = ℕ} 0 1 = cc in omega arith

@@ -1,11 +1,11 @@
--- `bench::put_said` meets its contract: the arm says what is shown. Assumes nothing.
+-- `bench_line::put_said` meets its contract: the arm says what is shown. Assumes nothing.
 use mathlib.Core.Path.{sym, ap}
 use Rattle.text.proofs.Pieces.{one, alike}
-use Rattle.bench.specs.declared.Said.{Said}
-use Rattle.bench.specs.Show.{shownOf}
+use Rattle.bench_line.specs.declared.Said.{Said}
+use Rattle.bench_line.specs.Show.{shownOf}
 use borrow.Author.Needs.{needs}
-use Rattle.bench.proofs.put_said.Statement.{statement}
-use Rattle.bench.proofs.put_said.Tie as tie
+use Rattle.bench_line.proofs.put_said.Statement.{statement}
+use Rattle.bench_line.proofs.put_said.Tie as tie
 
 enum-known-said : tie.Need-enum-known-said
 enum-known-said c = search needs

@@ -6,7 +6,7 @@ use lib.ListN.{length, take}
 use borrow.Author.Tests.{le-leb, lt-leb, eq-eqb, ne-eqb}
 use Rattle.answer.specs.Answer.{number, value}
 use Rattle.answer.specs.declared.Answer.{Answer}
-use Rattle.bench.specs.Show.{numberLine, replyPieces, answerPieces}
+use Rattle.bench_line.specs.Show.{numberLine, replyPieces, answerPieces}
 
 -- ---- a reply
 
