@@ -72,13 +72,21 @@ pub fn sampled(working: Working, o: Outputs, on: u32, reading: Reading) -> Outpu
     driving(coded(working, mode, o.code, reading), mode, on)
 }
 
+// New outputs whose code stands.
+fn with_mode(o: Outputs, mode: Mode, on: u32) -> Outputs
+    requires { ⌜ on ≤ 15 ⌝ }
+    ensures { λ r. ⌜ r ≡ driving (o .code) mode on ⌝ }
+{
+    driving(o.code, mode, on)
+}
+
 // A reset of alarms, with those that it leaves on.
 pub fn alarms_reset(o: Outputs, on: u32) -> Outputs
     requires { ⌜ on ≤ 15 ⌝ }
     ensures { λ r. ⌜ r ≡ alarmsReset o on ⌝ }
 {
     let mode = o.mode;
-    driving(o.code, mode, on)
+    with_mode(o, mode, on)
 }
 
 // Whether the mode is automatic.
@@ -105,7 +113,7 @@ pub fn to_manual(o: Outputs, on: u32, b: u8) -> Outputs
     requires { ⌜ on ≤ 15 ⌝ }
     ensures { λ r. ⌜ r ≡ toManual o on b ⌝ }
 {
-    driving(o.code, Mode::Manual(b % 16), on)
+    with_mode(o, Mode::Manual(b % 16), on)
 }
 
 // VJ with bit 4 clear: the code of the present reading at once.
