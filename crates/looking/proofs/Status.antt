@@ -20,7 +20,7 @@ use Rattle.effect.specs.Reply.{style, readReply}
 use Rattle.promises.proofs.Effects.{Changed, by-batch, by-reset, by-alarms, by-write, by-status, Upon, done, refused, reply, pressed-upon, addressed-upon}
 use Rattle.looking.specs.Kept.{Entry, measured, pressed, told, kept}
 use Rattle.looking.specs.Given.{given}
-use Rattle.looking.specs.Status.{Stored, StatusStored}
+use Rattle.looking.specs.Status.{StatusTrue, StatusStored}
 use Rattle.looking.proofs.State.{holds}
 
 -- ---- what an effect leaves
@@ -47,9 +47,9 @@ given-kept c (told s ∷ ks) = left-kept (given-kept c ks) (addressed-upon (c .t
 
 -- ---- so after a history
 
-stored : (c : Config) (i : Instrument) → StatusKept i → Stored c i
+status-true : (c : Config) (i : Instrument) → StatusKept i → StatusTrue c i
 unfolding readReply shownAt placesAt
-stored c i p =
+status-true c i p =
     record {
       gathered = p .stored;
       bits = kept-is i p;
@@ -57,4 +57,4 @@ stored c i p =
     }
 
 pub status-stored : (c : Config) → judged c ≡ Accepted → StatusStored c
-status-stored c accepted h = stored c _ (subst StatusKept (sym (holds c accepted h)) (given-kept c (kept c h)))
+status-stored c accepted h = status-true c _ (subst StatusKept (sym (holds c accepted h)) (given-kept c (kept c h)))

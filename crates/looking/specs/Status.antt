@@ -12,7 +12,7 @@ use Rattle.effect.specs.Reply.{style, readReply}
 use Rattle.looking.specs.History.{History, meterAfter}
 
 -- of an instrument
-pub record Stored (c : Config) (i : Instrument) : Type 0 where
+pub record StatusTrue (c : Config) (i : Instrument) : Type 0 where
   -- the alarms that are on, or in manual mode the manual bits, and 16 for manual
   pub gathered : i .outputs .status ≡ instruments.gathered i
   -- the same bit by bit: output k is driven, the mode is manual, and there is no other bit
@@ -22,4 +22,4 @@ pub record Stored (c : Config) (i : Instrument) : Type 0 where
 
 -- after any history
 abbrev pub StatusStored : Config → Type 0
-StatusStored c = (h : History) → Stored c (meterAfter c h .instrument)
+StatusStored c = (h : History) → StatusTrue c (meterAfter c h .instrument)
