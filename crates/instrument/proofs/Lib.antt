@@ -3,7 +3,6 @@ pub mod Keys
 pub mod Registers
 pub mod Modes
 pub mod Soundness
-pub mod Scale
 pub mod Status
 pub mod Sizes
 pub mod Cases

@@ -12,7 +12,7 @@ use Rattle.register.specs.Registers.{at, count}
 use Rattle.reading.specs.Reading.{displayable, size}
 use Rattle.reading.specs.declared.Reading.{Reading}
 use Rattle.reading.specs.declared.Reading.the-variants.{Nothing, Under, Number, Over}
-use Rattle.reading.proofs.Fit.{display-small}
+use Rattle.reading.proofs.Scale.{display-small}
 use Rattle.total.specs.Total as totals
 use Rattle.total.specs.declared.Range.{Range}
 use Rattle.total.specs.declared.Range.the-variants.{Within, Under as RangeUnder, Over as RangeOver}

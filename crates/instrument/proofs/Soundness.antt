@@ -7,13 +7,12 @@ use mathlib.Core.Bool.{Bool, true, false, cond, _&&_}
 use mathlib.Core.List.{List}
 use Prim.Native.Nat.{ℕ, _≤_, _<_}
 use lib.Dec.{eqb}
-use lib.IntN.{ℤ, pos, natAbs}
+use lib.IntN.{ℤ, pos}
 use Rattle.exact.specs.Sign.{within}
 use Rattle.exact.proofs.Z.{both, either}
 use Rattle.register.specs.Registers.{entry, holds, at}
 use Rattle.reading.specs.Reading.{inDisplay, displayable, point}
 use Rattle.reading.specs.declared.Reading.{Reading}
-use Rattle.reading.proofs.Laws.{reading-displayable}
 use Rattle.alarm.specs.declared.Alarm.{Alarm}
 use Rattle.alarm.specs.declared.Settings.{Settings}
 use Rattle.alarms.specs.Alarms as alarms
@@ -22,7 +21,6 @@ use Rattle.alarms.proofs.Four.{each-of-four}
 use Rattle.alarms.proofs.Soundness as alarms-sound
 use Rattle.config.specs.Config.{judged, rules, alarmRule, alarmRuleAt, alarmsRule, delayIn}
 use Rattle.config.specs.declared.Config.{Config}
-use Rattle.config.specs.declared.Scale.{Scale}
 use Rattle.config.specs.declared.Verdict.the-variants.{Accepted}
 use Rattle.config.specs.declared.Working.{Working}
 use Rattle.config.proofs.Verdicts.{accepted}
@@ -34,7 +32,7 @@ use Rattle.outputs.specs.Outputs as outputs
 use Rattle.outputs.specs.Meaning as outputs-by-part
 use Rattle.outputs.specs.declared.Outputs.{Outputs}
 use Rattle.outputs.proofs.Laws as outputs-sound
-use Rattle.instrument.specs.Instrument.{withMeasured, withAlarms, withReset, withOutputs, alarmOf, poweredUp, read, sampled, resetRegister, resetAlarms, batched, writeRegister, writeStatus, sound}
+use Rattle.instrument.specs.Instrument.{withMeasured, withAlarms, withReset, withOutputs, alarmOf, poweredUp, sampled, resetRegister, resetAlarms, batched, writeRegister, writeStatus, sound}
 use Rattle.instrument.specs.Meaning.{Sound}
 use Rattle.instrument.specs.declared.Instrument.{Instrument}
 use Rattle.instrument.proofs.Limits.{holds-is}
@@ -178,10 +176,9 @@ module _ (w : Working) (i : Instrument) (e : sound w i ≡ true) where
   kept : {n : Instrument} → (Sound w i → Sound w n) → sound w n ≡ true
   kept {n} f = passes w n (f (tested w i e))
 
-  -- a sample with any input, on any scale
-  pub sampled-stays : (s : Scale) (x : ℤ) → sound w (sampled w i (read s x)) ≡ true
-  sampled-stays s x =
-      kept (λ p. sampled-sound w i p (read s x) (reading-displayable (s .inputs) (s .displays) (natAbs (s .count)) (s .step) x))
+  -- a sample whose reading can be displayed
+  pub sampled-stays : (r : Reading) → displayable r ≡ true → sound w (sampled w i r) ≡ true
+  sampled-stays r e = kept (λ p. sampled-sound w i p r e)
 
   -- key 1
   pub batched-stays : sound w (batched w i) ≡ true

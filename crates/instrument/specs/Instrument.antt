@@ -5,13 +5,11 @@ use mathlib.Core.List.{List}
 use Prim.Native.Nat.{ℕ, _-_}
 use lib.Dec.{eqb}
 use lib.IntN.{ℤ, pos, natAbs}
-use Rattle.exact.specs.Sign.{within}
 use Rattle.register.specs.Registers.{at}
 use Rattle.reading.specs.Reading.{readingOf}
 use Rattle.reading.specs.declared.Reading.{Reading}
 use Rattle.alarm.specs.declared.Alarm.{Alarm}
 use Rattle.alarms.specs.Alarms as alarms
-use Rattle.config.specs.Config.{countRule, pointsRule}
 use Rattle.config.specs.declared.Scale.{Scale}
 use Rattle.config.specs.declared.Working.{Working}
 use Rattle.measured.specs.Measured as measured
@@ -43,7 +41,7 @@ poweredUp setpoints = record { measured = measured.poweredUp; alarms = alarms.po
 
 -- ---- a sample: reading, total, max and min, alarms, analog
 
--- the reading of an input on a scale
+-- the reading of an input on a scale, by its points. What a meter holds are segments, and they read the same (`segments`)
 abbrev pub read : Scale → ℤ → Reading
 read s x = readingOf (s .inputs) (s .displays) (natAbs (s .count)) (s .step) x
 
@@ -105,7 +103,3 @@ writeStatus w i b = cond (alarms.bit b 4) (toManual i b) (toAutomatic w i (alarm
 
 unfoldable pub sound : Working → Instrument → Bool
 sound w i = measured.sound w (i .measured) && alarms.sound (i .alarms) && outputs.sound (i .outputs)
-
--- a scale that an input can be read on: a step to divide by, 2 to 16 points, and rule 5 of them
-unfoldable pub canScale : Scale → Bool
-canScale s = within (pos 1) (pos 100) (s .step) && (countRule s && pointsRule s)

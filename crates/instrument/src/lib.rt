@@ -2,7 +2,6 @@
 // cannot see who looks at it: samples, keys, V and R change it, and T and P take it as it is and give what is shown.
 use alarm::Alarm;
 use config::Places;
-use config::Scale;
 use config::Working;
 use measured::Measured;
 use outputs::Mode;
@@ -11,13 +10,11 @@ use reading::Reading;
 ghost use mathlib.Core.Path.{_≡_};
 ghost use mathlib.Core.Bool.{true, false};
 ghost use Prim.Native.Nat.{_≤_, _<_};
-ghost use lib.IntN.{natAbs};
-ghost use Rattle.exact.specs.Sign.{isNeg, eqZ};
-ghost use Rattle.reading.specs.Reading.{Scalable};
+ghost use Rattle.exact.specs.Sign.{eqZ};
 ghost use Rattle.total.specs.Total.{Timed, inRange};
 ghost use Rattle.register.specs.Registers.{at, count};
 ghost use Rattle.config.specs.Config.{placesRule};
-ghost use Rattle.instrument.specs.Instrument.{withReset, poweredUp, read, sampled, resetRegister, resetAlarms, batched, shut, writeRegister, writeStatus, sound, canScale};
+ghost use Rattle.instrument.specs.Instrument.{withReset, poweredUp, sampled, resetRegister, resetAlarms, batched, shut, writeRegister, writeStatus, sound};
 ghost use Rattle.instrument.specs.Shown.{shownAt, placesAt};
 
 // All that is kept from one event to the next, the receiver apart: what was measured, the alarms, and how the outputs are driven.
@@ -39,18 +36,6 @@ pub fn powered_up(setpoints: [i32; 4]) -> Instrument
         alarms,
         outputs,
     }
-}
-
-// The reading of an input on a scale. The scale goes in alone, since points that are lent are lent out of a copy of all that was handed
-// over with them.
-pub fn read(s: Scale, input: i32) -> Reading
-    requires { ⌜ isNeg (s .count) ≡ false ⌝ }
-    requires { ⌜ Scalable (s .inputs) (s .displays) (natAbs (s .count)) (s .step) ⌝ }
-    ensures { λ r. ⌜ r ≡ read s input ⌝ }
-{
-    let count = s.count as usize;
-    let step = s.step;
-    reading::reading_of(&s.inputs, &s.displays, count, step, input)
 }
 
 // A sample whose reading is known: total, max and min, alarms, analog, in this order.
@@ -208,17 +193,4 @@ pub fn is_sound(working: Working, i: Instrument) -> bool
     measured::is_sound(working, i.measured)
         & alarms::is_sound(alarms)
         & outputs::is_sound(i.outputs)
-}
-
-// Whether a scale is one that an input can be read on. The points are judged where their number is one that can be.
-pub fn can_scale(s: Scale) -> bool
-    ensures { λ r. ⌜ r ≡ canScale s ⌝ }
-{
-    if exact::is_within(s.count, 2, 16) {
-        let step_in = exact::is_within(s.step, 1, 100);
-        let count = s.count as usize;
-        step_in & reading::points_in(&s.inputs, &s.displays, count)
-    } else {
-        false
-    }
 }

@@ -8,8 +8,12 @@ use lib.Dec.{eqb}
 use lib.IntN.{ℤ, pos}
 use lib.ListN.{length}
 use Rattle.exact.proofs.Z.{never, eqZ-true}
+use Rattle.config.specs.Config.{judged}
 use Rattle.config.specs.declared.Config.{Config}
+use Rattle.config.specs.declared.Verdict.the-variants.{Accepted}
 use Rattle.config.specs.declared.Working.{Working}
+use Rattle.config.proofs.Acceptance.{scale-accepted}
+use Rattle.segments.proofs.ByPoints.{reads}
 use Rattle.receiver.specs.Receiver.{bytes, too-long, ends, drops, over, kind, next, heard}
 use Rattle.receiver.specs.Since.{hearing}
 use Rattle.receiver.specs.declared.Receiver.{Receiver}
@@ -28,7 +32,7 @@ use Rattle.effect.specs.Effect as effects
 use Rattle.effect.specs.Effect.{Effect, stands, leaves, settled, byRoom, settle, addressed, carried}
 use Rattle.answer.specs.declared.Answer.the-variants.{OtherNode}
 use Rattle.meter.specs.Door.{sound, reachOf}
-use Rattle.meter.specs.Meter.{Step, withInstrument, withReceiver, endEffect, takes, byKind}
+use Rattle.meter.specs.Meter.{Step, fresh, withInstrument, withReceiver, endEffect, takes, byKind}
 use Rattle.meter.specs.declared.Meter.{Meter}
 use Rattle.promises.proofs.Door.{stands-open, keyed-in, received-in, endedAs, at-end}
 use Rattle.promises.proofs.Effects.{Upon, done, refused, reply, key-upon, end-upon}
@@ -47,12 +51,13 @@ hearsNext r (sample x) = r
 hearsNext r (key k place buffer) = r
 hearsNext r (byte b place buffer) = next r b
 
-abbrev meterOf : Config → Instrument → Receiver → Meter
-meterOf c i r = record { config = c; instrument = i; receiver = r }
+-- a meter of a configuration
+abbrev pub meterOf : Config → Instrument → Receiver → Meter
+meterOf c i r = record { config = fresh c .config; instrument = i; receiver = r }
 
 -- the meter after an event, with the string s half received
-abbrev pub nextOf : Meter → List ℕ → Event → Meter
-nextOf m s e = meterOf (m .config) (carriedBy (m .config) (m .instrument) (keeps (m .config) s e)) (hearsNext (m .receiver) e)
+abbrev pub nextOf : Config → Instrument → Receiver → List ℕ → Event → Meter
+nextOf c i r s e = meterOf c (carriedBy c i (keeps c s e)) (hearsNext r e)
 
 module _ (c : Config) (i : Instrument) where
   -- ── a string that is no V or R to this meter leaves the instrument ──
@@ -98,34 +103,38 @@ settles {i = i} buffer place (reply text) = by-room i (buffers.answer buffer pla
 
 -- ── a byte ──
 
-module _ (m : Meter) (s : List ℕ) (buffer : List ℕ) (place : ℕ) where
-  long-does : (t : Bool)
-      → leaves (endedAs m (cond t too-long (bytes s)))
-      ≡ carriedBy (m .config) (m .instrument) (cond (not t && altersAt (nodeOf (m .config)) (parse s)) (some (told s)) none)
-  long-does true = refl
-  long-does false = told-does (m .config) (m .instrument) s (altersAt (nodeOf (m .config)) (parse s)) refl
+module _ (c : Config) (i : Instrument) (r : Receiver) (s : List ℕ) (buffer : List ℕ) (place : ℕ) where
+  abbrev m : Meter
+  m = meterOf c i r
 
-  end-does : heard (m .receiver) ≡ hearing s → leaves (endEffect m) ≡ carriedBy (m .config) (m .instrument) (cond (change (nodeOf (m .config)) s) (some (told s)) none)
+  long-does : (t : Bool) → leaves (endedAs m (cond t too-long (bytes s))) ≡ carriedBy c i (cond (not t && altersAt (nodeOf c) (parse s)) (some (told s)) none)
+  long-does true = refl
+  long-does false = told-does c i s (altersAt (nodeOf c) (parse s)) refl
+
+  end-does : heard r ≡ hearing s → leaves (endEffect m) ≡ carriedBy c i (cond (change (nodeOf c) s) (some (told s)) none)
   unfolding change
   end-does e = ap leaves (at-end m (hearing s) e) ∙ long-does (over (length s))
 
-  kind-does : (r : Receiver) (t u : Bool) → heard (m .receiver) ≡ hearing s
-      → byKind m (withReceiver m r) buffer place (cond t End (cond u Drop Part)) .outcome .meter
-      ≡ meterOf (m .config) (carriedBy (m .config) (m .instrument) (cond (t && change (nodeOf (m .config)) s) (some (told s)) none)) r
-  kind-does r true u e = ap (withInstrument (withReceiver m r)) (settles buffer place (end-upon m) ∙ end-does e)
-  kind-does r false true e = refl
-  kind-does r false false e = refl
+  kind-does : (q : Receiver) (t u : Bool) → heard r ≡ hearing s
+      → byKind m (withReceiver m q) buffer place (cond t End (cond u Drop Part)) .outcome .meter
+      ≡ meterOf c (carriedBy c i (cond (t && change (nodeOf c) s) (some (told s)) none)) q
+  kind-does q true u e = ap (withInstrument (withReceiver m q)) (settles buffer place (end-upon m) ∙ end-does e)
+  kind-does q false true e = refl
+  kind-does q false false e = refl
 
-  byte-does : (b : ℕ) → heard (m .receiver) ≡ hearing s → byKind m (takes m b) buffer place (kind b) .outcome .meter ≡ nextOf m s (byte b place buffer)
+  byte-does : (b : ℕ) → heard r ≡ hearing s → byKind m (takes m b) buffer place (kind b) .outcome .meter ≡ nextOf c i r s (byte b place buffer)
   unfolding kind
-  byte-does b e = kind-does (next (m .receiver) b) (ends b) (drops b) e
+  byte-does b e = kind-does (next r b) (ends b) (drops b) e
 
--- ── an event ──
+-- ── an event: a sample is read by segments, and so as document 01 reads it by points ──
 
-pub does : (m : Meter) (s : List ℕ) (e : Event) → sound m ≡ true → heard (m .receiver) ≡ hearing s → outcomeOf m e .meter ≡ nextOf m s e
-does m s (sample x) ok e = rw ok
-does m s (key k place buffer) ok e =
+pub does : (c : Config) → judged c ≡ Accepted → (i : Instrument) (r : Receiver) (s : List ℕ) (e : Event) → sound (meterOf c i r) ≡ true → heard r ≡ hearing s
+    → outcomeOf (meterOf c i r) e .meter ≡ nextOf c i r s e
+does c a i r s (sample x) ok e = rw (ok, reads (c .scale) (scale-accepted c a) x)
+does c a i r s (key k place buffer) ok e =
+    let m = meterOf c i r in
     ap (λ (o : Step). o .outcome .meter) (keyed-in m buffer place k ok)
-    ∙ ap (withInstrument m) (settles buffer place (key-upon m k) ∙ key-does (m .config) (m .instrument) k (prints k) refl)
-does m s (byte b place buffer) ok e =
-    ap (λ (o : Step). o .outcome .meter) (received-in m buffer place b (stands-open m (reachOf (kind b)) ok)) ∙ byte-does m s buffer place b e
+    ∙ ap (withInstrument m) (settles buffer place (key-upon m k) ∙ key-does c i k (prints k) refl)
+does c a i r s (byte b place buffer) ok e =
+    let m = meterOf c i r in
+    ap (λ (o : Step). o .outcome .meter) (received-in m buffer place b (stands-open m (reachOf (kind b)) ok)) ∙ byte-does c i r s buffer place b e

@@ -16,6 +16,7 @@ use Rattle.alarms.specs.Alarms as alarms
 use Rattle.alarms.specs.Alarms.{alarmAt}
 use Rattle.analog.specs.Analog as analogs
 use Rattle.config.specs.Config as configs
+use Rattle.segments.specs.Segments as segments
 use Rattle.config.specs.declared.Verdict.the-variants.{Accepted}
 use Rattle.register.specs.Registers.{entry, index, at}
 use Rattle.receiver.specs.Receiver.{kind, store}
@@ -57,7 +58,7 @@ reads = read (asked asking 5 (Read (at "E")) .1 (asks, λ e. let z : _≡_ {A = 
 
 -- every definition that a sample, a byte and a reply to T are computed by
 opened : Unit {0}
-unfolding configs.judged configs.firstBroken configs.rules configs.alarmsRule configs.alarmRule among readings.pointsIn readings.upTo sound instruments.canScale able instruments.sound measured.sound alarms.sound outputs.sound readings.displayable readings.readingOf readings.displayed readings.judged readings.onLine readings.segment readings.firstFrom halfUp nearest toStep cut totals.added totals.summed totals.sampleAdds totals.quotient totals.unitOf extremes.sampled extremes.compared extremes.moved extremes.beyond extremes.reset extremes.shown samples counted alarms.allSampled one-alarm.sampled one-alarm.moved one-alarm.awaited one-alarm.delay one-alarm.onCondition one-alarm.offCondition one-alarm.above one-alarm.atMost analogs.codeOf analogs.floorBy analogs.held floor outputs.coded kind store commands.parse commands.firstDigit commands.secondDigit commands.body commands.reading commands.sole index entry readReply lines.line lines.fullLine lines.head lines.nodeText lines.abbreviatedLine fields.field fields.text fields.number fields.sign fields.digits fields.decimal fields.fraction fields.atRight shownAt placesAt buffers.answer
+unfolding configs.judged configs.firstBroken configs.rules configs.alarmsRule configs.alarmRule among readings.pointsIn readings.upTo sound segments.tested able instruments.sound measured.sound alarms.sound outputs.sound readings.displayable segments.listed segments.readOn segments.along readings.displayed readings.judged readings.firstFrom halfUp nearest toStep cut totals.added totals.summed totals.sampleAdds totals.quotient totals.unitOf extremes.sampled extremes.compared extremes.moved extremes.beyond extremes.reset extremes.shown samples counted alarms.allSampled one-alarm.sampled one-alarm.moved one-alarm.awaited one-alarm.delay one-alarm.onCondition one-alarm.offCondition one-alarm.above one-alarm.atMost analogs.codeOf analogs.floorBy analogs.held floor outputs.coded kind store commands.parse commands.firstDigit commands.secondDigit commands.body commands.reading commands.sole index entry readReply lines.line lines.fullLine lines.head lines.nodeText lines.abbreviatedLine fields.field fields.text fields.number fields.sign fields.digits fields.decimal fields.fraction fields.atRight shownAt placesAt buffers.answer
 opened = tt
 
 answered : number (lastOutcome bench (excursion 1 3) .answer) ≡ 2

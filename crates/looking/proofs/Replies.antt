@@ -12,10 +12,12 @@ use Rattle.config.specs.Config.{judged}
 use Rattle.config.specs.declared.Config.{Config}
 use Rattle.config.specs.declared.Verdict.the-variants.{Accepted}
 use Rattle.receiver.specs.Receiver.{limit, ends}
-use Rattle.receiver.specs.Since.{hearing}
+use Rattle.receiver.specs.Since.{after, hearing}
+use Rattle.receiver.specs.declared.Receiver.{Receiver}
 use Rattle.receiver.proofs.Hearing.{hears}
 use Rattle.command.specs.declared.Asked.{Asked}
 use Rattle.line.specs.Buffer as buffers
+use Rattle.instrument.specs.declared.Instrument.{Instrument}
 use Rattle.effect.specs.Reply.{printReply}
 use Rattle.answer.specs.Answer as answers
 use Rattle.meter.specs.Door.{sound}
@@ -30,6 +32,7 @@ use Rattle.looking.specs.Given.{given}
 use Rattle.looking.specs.Sent as sent
 use Rattle.looking.specs.Sent.{Sent, Reads, replyTo, shownBy}
 use Rattle.looking.specs.Looking.{SameReply}
+use Rattle.looking.proofs.Does.{meterOf}
 use Rattle.looking.proofs.Ends.{end-kind}
 use Rattle.looking.proofs.State.{closed, state, sound-after, holds}
 use Rattle.looking.proofs.Whole.{sent-half, sent-kept, short-reads}
@@ -55,10 +58,10 @@ same-shown s t = record { first = s .number; second = t .number; bytes = s .byte
 
 -- ── a read that ends, and key 6 ──
 
-ended-read : (m : Meter) {s : List ℕ} {a : Asked} (b place : ℕ) (buffer : List ℕ) → Ends m b s → Reads s (nodeOf (m .config)) a
-    → Room (replyTo (m .config) (m .instrument) a) buffer place → Shows (received m b buffer place) place (replyTo (m .config) (m .instrument) a)
-ended-read m {s} b place buffer end (sent.read {r} x) room = shows _ buffer place room (event-rows m buffer place .row-2 .read b r s end x room)
-ended-read m {s} b place buffer end (sent.print x) room = shows _ buffer place room (event-rows m buffer place .row-2 .print b s end x room)
+ended-read : (c : Config) (i : Instrument) (h : Receiver) {s : List ℕ} {a : Asked} (b place : ℕ) (buffer : List ℕ) → Ends (meterOf c i h) b s → Reads s (nodeOf c) a
+    → Room (replyTo c i a) buffer place → Shows (received (meterOf c i h) b buffer place) place (replyTo c i a)
+ended-read c i h {s} b place buffer end (sent.read {r} x) room = shows _ buffer place room (event-rows (meterOf c i h) buffer place .row-2 .read b r s end x room)
+ended-read c i h {s} b place buffer end (sent.print x) room = shows _ buffer place room (event-rows (meterOf c i h) buffer place .row-2 .print b s end x room)
 
 module _ (c : Config) (accepted : judged c ≡ Accepted) where
   sound-closed : (h : History) → sound (closed c h) ≡ true
@@ -79,7 +82,7 @@ module _ (c : Config) (accepted : judged c ≡ Accepted) where
   read-shows h g s a b place buffer none-half x sending t room =
       let u = short-reads x .unbroken in
       rw (state c accepted g, ← sent-kept c sending u)
-      (ended-read (closed c g) b place buffer (ends-closed g s a b (sent-half sending u ∙ rw none-half) x t) x (rw (sent-kept c sending u, ← holds c accepted h) room))
+      (ended-read c (given c (kept c g)) (after (bytesOf g)) b place buffer (ends-closed g s a b (sent-half sending u ∙ rw none-half) x t) x (rw (sent-kept c sending u, ← holds c accepted h) room))
 
   print-shows : (h : History) (place : ℕ) (buffer : List ℕ) → Room (printReply (c .talking) (c .working) (meterAfter c h .instrument)) buffer place
       → Shows (keyed (meterAfter c h) (pos 6) buffer place) place (printReply (c .talking) (c .working) (given c (kept c h)))

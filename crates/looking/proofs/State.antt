@@ -1,5 +1,5 @@
 -- The meter after a history in closed form: its configuration, what the kept list gives, and a receiver that has heard the bytes.
-use mathlib.Core.Path.{_≡_, refl, ap, sym, _∙_}
+use mathlib.Core.Path.{_≡_, refl, ap, sym, subst, _∙_}
 use mathlib.Core.Bool.{true}
 use mathlib.Core.List.{List, [], _∷_}
 use mathlib.Core.Option.{Option, none, some}
@@ -13,17 +13,17 @@ use Rattle.receiver.proofs.Hearing.{hears}
 use Rattle.meter.specs.Door.{sound}
 use Rattle.meter.specs.Meter.{fresh, byVerdict}
 use Rattle.meter.specs.declared.Meter.{Meter}
-use Rattle.looking.specs.History.{Event, sample, key, byte, History, meterAfter, bytesOf, half}
+use Rattle.looking.specs.History.{Event, sample, key, byte, History, outcomeOf, meterAfter, bytesOf, half}
 use Rattle.looking.specs.Kept.{Entry, keeps, add, kept}
 use Rattle.looking.specs.Given.{given}
 use Rattle.looking.proofs.Sound.{fresh-sound, event-sound}
-use Rattle.looking.proofs.Does.{carriedBy, hearsNext, nextOf, does}
+use Rattle.looking.proofs.Does.{carriedBy, hearsNext, meterOf, nextOf, does}
 
 -- what the kept list gives, and what the bytes leave in the receiver
 abbrev pub closed : Config → History → Meter
-closed c h = record { config = c; instrument = given c (kept c h); receiver = after (bytesOf h) }
+closed c h = meterOf c (given c (kept c h)) (after (bytesOf h))
 
-given-add : (c : Config) (o : Option Entry) (ks : List Entry) → carriedBy c (given c ks) o ≡ given c (add o ks)
+pub given-add : (c : Config) (o : Option Entry) (ks : List Entry) → carriedBy c (given c ks) o ≡ given c (add o ks)
 given-add c none ks = refl
 given-add c (some k) ks = refl
 
@@ -33,8 +33,8 @@ after-next (sample x) h = refl
 after-next (key k place buffer) h = refl
 after-next (byte b place buffer) h = refl
 
-next-closed : (c : Config) (e : Event) (h : History) → nextOf (closed c h) (half h) e ≡ closed c (e ∷ h)
-next-closed c e h = λ i. record { config = c; instrument = given-add c (keeps c (half h) e) (kept c h) i; receiver = after-next e h i }
+next-closed : (c : Config) (e : Event) (h : History) → nextOf c (given c (kept c h)) (after (bytesOf h)) (half h) e ≡ closed c (e ∷ h)
+next-closed c e h = λ i. meterOf c (given-add c (keeps c (half h) e) (kept c h) i) (after-next e h i)
 
 module _ (c : Config) (accepted : judged c ≡ Accepted) where
   starts : meterAfter c [] ≡ fresh c
@@ -52,15 +52,15 @@ module _ (c : Config) (accepted : judged c ≡ Accepted) where
   unfolding after
   state [] = starts
   state (e ∷ h) =
-      does (meterAfter c h) (half h) e (sound-after h) (heard-by (meterAfter c h) h (state h))
-      ∙ ap (λ (m : Meter). nextOf m (half h) e) (state h)
+      ap (λ (m : Meter). outcomeOf m e .meter) (state h)
+      ∙ does c accepted (given c (kept c h)) (after (bytesOf h)) (half h) e (subst (λ (m : Meter). sound m ≡ true) (state h) (sound-after h)) (hears (bytesOf h))
       ∙ next-closed c e h
 
   -- the receiver has heard the string half received
   pub heard-after : (h : History) → heard (meterAfter c h .receiver) ≡ hearing (half h)
   heard-after h = heard-by (meterAfter c h) h (state h)
 
-  pub config-after : (h : History) → meterAfter c h .config ≡ c
+  pub config-after : (h : History) → meterAfter c h .config ≡ fresh c .config
   config-after h = ap (λ (m : Meter). m .config) (state h)
 
   pub holds : (h : History) → meterAfter c h .instrument ≡ given c (kept c h)

@@ -8,12 +8,14 @@ use Prim.Native.Nat.{ℕ, _≤_}
 use native.Mathlib.Omega.{arith}
 use borrow.Author.Tests.{ne-eqb, eqb-true, ltb-false}
 use lib.Dec.{eqb}
-use lib.IntN.{ℤ, pos}
+use lib.IntN.{ℤ, pos, natAbs}
 use lib.ListN.{length}
 use Rattle.exact.specs.Sign.{eqZ}
 use Rattle.exact.proofs.Z.{either, eqZ-true}
 use Rattle.config.specs.Config.{judged}
 use Rattle.config.specs.declared.Config.{Config}
+use Rattle.config.specs.declared.Talking.{Talking}
+use Rattle.config.specs.declared.Working.{Working}
 use Rattle.config.specs.declared.Verdict.the-variants.{Accepted}
 use Rattle.receiver.specs.Receiver.{bytes, too-long, ends, drops, limit, over, kind, heard}
 use Rattle.receiver.specs.Since.{ending, hearing}
@@ -36,7 +38,9 @@ use Rattle.answer.specs.Answer.{number}
 use Rattle.answer.specs.declared.Answer.the-variants.{Done, Stored, OtherNode, Dropped, TooLong, UnknownKey, NotStarted}
 use Rattle.meter.specs.Door.{sound, hears, reachOf}
 use Rattle.meter.specs.Meter.{outcome, Step, step, takes, settledIn, byKind, received}
+use Rattle.meter.specs.declared.Held.{Held}
 use Rattle.meter.specs.declared.Meter.{Meter}
+use Rattle.promises.specs.Rows as rows
 use Rattle.promises.specs.Rows.{emptied}
 use Rattle.promises.proofs.Door.{stands-open, keyed-in, received-in, received-as, endedAs, at-end}
 use Rattle.looking.specs.History.{Event, sample, key, byte, History, outcomeOf, meterAfter, nodeOf, half}
@@ -49,22 +53,25 @@ use Rattle.looking.proofs.State.{sound-after, heard-after, config-after
 
 -- ── a string for another node ──
 
-other-parsed : (c : Config) (i : Instrument) (p : Parsed) (n : ℕ) → parsedNode p ≡ some n → n ≢ nodeOf c
-    → addressed (c .talking) (c .working) i p ≡ stands (settled OtherNode i)
-other-parsed c i NoNode n e d = absurd (let z : _≡_ {A = ℕ} 0 1 = cc in omega arith)
-other-parsed c i (To k a) n e d = let q : k ≡ n = cc in rw (ne-eqb k (nodeOf c) (λ r. d (sym q ∙ r)))
+other-parsed : (m : Meter) (p : Parsed) (n : ℕ) → parsedNode p ≡ some n → n ≢ rows.nodeOf m
+    → addressed (m .config .talking) (m .config .working) (m .instrument) p ≡ stands (settled OtherNode (m .instrument))
+other-parsed m NoNode n e d = absurd (let z : _≡_ {A = ℕ} 0 1 = cc in omega arith)
+other-parsed m (To k a) n e d = let q : k ≡ n = cc in rw (ne-eqb k (rows.nodeOf m) (λ r. d (sym q ∙ r)))
 
-other-ended : (m : Meter) (s : List ℕ) (n : ℕ) (t : Bool) → addresses.addressed s ≡ some n → n ≢ nodeOf (m .config)
+other-ended : (m : Meter) (s : List ℕ) (n : ℕ) (t : Bool) → addresses.addressed s ≡ some n → n ≢ rows.nodeOf m
     → endedAs m (cond t too-long (bytes s)) ≡ stands (settled (cond t TooLong OtherNode) (m .instrument))
 other-ended m s n true e d = refl
-other-ended m s n false e d = other-parsed (m .config) (m .instrument) (parse s) n (parsed-node s ∙ e) d
+other-ended m s n false e d = other-parsed m (parse s) n (parsed-node s ∙ e) d
 
 -- ── what draws a reply ──
 
 found : (s : List ℕ) (n : ℕ) (a : Asked) → parse s ≡ To n a → a ≢ BadForm → Says s n a
 found s n a p h = asked s n a .1 (p, h)
 
-module _ (c : Config) (i : Instrument) (buffer : List ℕ) (place : ℕ) where
+module _ (t : Talking) (w : Working) (i : Instrument) (buffer : List ℕ) (place : ℕ) where
+  abbrev node : ℕ
+  node = natAbs (t .node)
+
   -- where an effect draws a reply, X holds
   abbrev Drawn : Type 0 → Effect → Type 0
   Drawn X e = number (settle i e buffer place .settled .answer) ≡ 2 → X
@@ -73,10 +80,10 @@ module _ (c : Config) (i : Instrument) (buffer : List ℕ) (place : ℕ) where
   abbrev Silent : Settled → Type 0
   Silent s = number (s .answer) ≢ 2
 
-  write-silent : (r : ℕ) (z : ℤ) → Silent (written (c .working) i r z)
+  write-silent : (r : ℕ) (z : ℤ) → Silent (written w i r z)
   write-silent r z = either Silent (shut (i .outputs .mode) r) (λ e. omega arith) (λ e. omega arith)
 
-  drawn-asked : (s : List ℕ) (n : ℕ) (a : Asked) → parse s ≡ To n a → Drawn ((b : Asked) × Reads s n b) (carried (c .talking) (c .working) i a)
+  drawn-asked : (s : List ℕ) (n : ℕ) (a : Asked) → parse s ≡ To n a → Drawn ((b : Asked) × Reads s n b) (carried t w i a)
   drawn-asked s n (Read r) p e = (Read r, sent.read (found s n (Read r) p (λ k. let z : _≡_ {A = ℕ} 0 1 = cc in omega arith)))
   drawn-asked s n Print p e = (Print, sent.print (found s n Print p (λ k. let z : _≡_ {A = ℕ} 0 1 = cc in omega arith)))
   drawn-asked s n (Reset r) p e = absurd (omega arith)
@@ -84,26 +91,26 @@ module _ (c : Config) (i : Instrument) (buffer : List ℕ) (place : ℕ) where
   drawn-asked s n (Status b) p e = absurd (omega arith)
   drawn-asked s n BadForm p e = absurd (omega arith)
 
-  drawn-node : (s : List ℕ) (n : ℕ) (a : Asked) (t : Bool) → parse s ≡ To n a → eqb n (nodeOf c) ≡ t
-      → Drawn ((b : Asked) × Reads s (nodeOf c) b) (cond t (carried (c .talking) (c .working) i a) (stands (settled OtherNode i)))
-  drawn-node s n a true p q e = drawn-asked s (nodeOf c) a (p ∙ ap (λ (k : ℕ). To k a) (eqb-true n (nodeOf c) q)) e
+  drawn-node : (s : List ℕ) (n : ℕ) (a : Asked) (u : Bool) → parse s ≡ To n a → eqb n node ≡ u
+      → Drawn ((b : Asked) × Reads s node b) (cond u (carried t w i a) (stands (settled OtherNode i)))
+  drawn-node s n a true p q e = drawn-asked s node a (p ∙ ap (λ (k : ℕ). To k a) (eqb-true n node q)) e
   drawn-node s n a false p q e = absurd (omega arith)
 
-  drawn-parsed : (s : List ℕ) (p : Parsed) → parse s ≡ p → Drawn ((b : Asked) × Reads s (nodeOf c) b) (addressed (c .talking) (c .working) i p)
+  drawn-parsed : (s : List ℕ) (p : Parsed) → parse s ≡ p → Drawn ((b : Asked) × Reads s node b) (addressed t w i p)
   drawn-parsed s NoNode p e = absurd (omega arith)
-  drawn-parsed s (To n a) p e = drawn-node s n a (eqb n (nodeOf c)) p refl e
+  drawn-parsed s (To n a) p e = drawn-node s n a (eqb n node) p refl e
 
   -- of keys 1 to 5 and of unknown ones none is answered by 2
-  drawn-print : (reply : List ℕ) (t : Bool) → Drawn (t ≡ true) (cond t (replies reply i) (stands (settled UnknownKey i)))
+  drawn-print : (reply : List ℕ) (u : Bool) → Drawn (u ≡ true) (cond u (replies reply i) (stands (settled UnknownKey i)))
   drawn-print reply true e = refl
   drawn-print reply false e = absurd (omega arith)
 
   abbrev ByKey : ℤ → Effect → Type 0
   ByKey k = Drawn (prints k ≡ true)
 
-  drawn-key : (k : ℤ) → ByKey k (pressed (c .talking) (c .working) i k)
+  drawn-key : (k : ℤ) → ByKey k (pressed t w i k)
   drawn-key k =
-      either (ByKey k) (eqZ k (pos 1)) (λ e. absurd (either Silent (c .working .totalizer .batch) (λ q. omega arith) (λ q. omega arith) e))
+      either (ByKey k) (eqZ k (pos 1)) (λ e. absurd (either Silent (w .totalizer .batch) (λ q. omega arith) (λ q. omega arith) e))
       (either (ByKey k) (eqZ k (pos 2)) (λ e. absurd (omega arith))
       (either (ByKey k) (eqZ k (pos 3)) (λ e. absurd (omega arith))
       (either (ByKey k) (eqZ k (pos 4)) (λ e. absurd (omega arith))
@@ -112,19 +119,19 @@ module _ (c : Config) (i : Instrument) (buffer : List ℕ) (place : ℕ) where
 
 module _ (m : Meter) (s : List ℕ) (buffer : List ℕ) (place : ℕ) where
   drawn-end : (t : Bool) → over (length s) ≡ t
-      → Drawn (m .config) (m .instrument) buffer place ((length s ≤ 32) × ((b : Asked) × Reads s (nodeOf (m .config)) b)) (endedAs m (cond t too-long (bytes s)))
+      → Drawn (m .config .talking) (m .config .working) (m .instrument) buffer place ((length s ≤ 32) × ((b : Asked) × Reads s (rows.nodeOf m) b)) (endedAs m (cond t too-long (bytes s)))
   drawn-end true q e = absurd (omega arith)
-  drawn-end false q e = (ltb-false limit (length s) q, drawn-parsed (m .config) (m .instrument) buffer place s (parse s) refl e)
+  drawn-end false q e = (ltb-false limit (length s) q, drawn-parsed (m .config .talking) (m .config .working) (m .instrument) buffer place s (parse s) refl e)
 
   drawn-kind : (n : Meter) (t u : Bool) → heard (m .receiver) ≡ hearing s
       → number (byKind m n buffer place (cond t End (cond u Drop Part)) .outcome .answer) ≡ 2
-      → (t ≡ true) × (length s ≤ 32) × ((a : Asked) × Reads s (nodeOf (m .config)) a)
+      → (t ≡ true) × (length s ≤ 32) × ((a : Asked) × Reads s (rows.nodeOf m) a)
   drawn-kind n true u h e = let d = drawn-end (over (length s)) refl (rw (at-end m (hearing s) h) at e) in (refl, d .0, d .1)
   drawn-kind n false true h e = absurd (omega arith)
   drawn-kind n false false h e = absurd (omega arith)
 
   drawn-byte : (b : ℕ) → heard (m .receiver) ≡ hearing s → number (byKind m (takes m b) buffer place (kind b) .outcome .answer) ≡ 2
-      → (ends b ≡ true) × (length s ≤ 32) × ((a : Asked) × Reads s (nodeOf (m .config)) a)
+      → (ends b ≡ true) × (length s ≤ 32) × ((a : Asked) × Reads s (rows.nodeOf m) a)
   unfolding kind
   drawn-byte b h e = drawn-kind (takes m b) (ends b) (drops b) h e
 
@@ -139,8 +146,8 @@ answers q e = rw q at e
 -- ── after a history ──
 
 module _ (c : Config) (accepted : judged c ≡ Accepted) where
-  node-after : (h : History) → nodeOf (meterAfter c h .config) ≡ nodeOf c
-  node-after h = ap nodeOf (config-after c accepted h)
+  node-after : (h : History) → rows.nodeOf (meterAfter c h) ≡ nodeOf c
+  node-after h = ap (λ (k : Held). natAbs (k .talking .node)) (config-after c accepted h)
 
   pub coming-in : (h : History) (b place : ℕ) (buffer : List ℕ) → ending b ≡ false
       → received (meterAfter c h) b buffer place ≡ step Stored (takes (meterAfter c h) b) buffer
@@ -161,7 +168,7 @@ module _ (c : Config) (accepted : judged c ≡ Accepted) where
   only-ours h (sample x) e = absurd (sample-silent (sound (meterAfter c h)) _ _ e)
   only-ours h (key k place buffer) e =
       let m = meterAfter c h in
-      eqZ-true k (pos 6) (drawn-key (m .config) (m .instrument) buffer place k (answers (keyed-in m buffer place k (sound-after c accepted h)) e))
+      eqZ-true k (pos 6) (drawn-key (m .config .talking) (m .config .working) (m .instrument) buffer place k (answers (keyed-in m buffer place k (sound-after c accepted h)) e))
   only-ours h (byte b place buffer) e =
       let m = meterAfter c h in
       let d = drawn-byte m (half h) buffer place b (heard-after c accepted h)

@@ -28,14 +28,13 @@ use Rattle.effect.specs.declared.Settled.{Settled}
 use Rattle.answer.specs.Answer.{number}
 use Rattle.answer.specs.declared.Answer.{Answer}
 use Rattle.meter.specs.Meter.{received}
-use Rattle.meter.specs.declared.Meter.{Meter}
 use Rattle.promises.proofs.Leaves.{leaves}
 use Rattle.looking.specs.History.{Event, sample, key, byte, History, meterAfter, nodeOf, half}
-use Rattle.looking.specs.Kept.{Entry, told, keeps}
+use Rattle.looking.specs.Kept.{Entry, told, keeps, kept}
 use Rattle.looking.specs.Inserted.{refusal, Idle, read, other-node, refused, rewrites, Inserted, power-up, event, print-key, begins, part, sample-between, key-between, ended as string-ended, dropped}
 use Rattle.looking.proofs.Ends.{not-ends, drop-not-ends, drop-ending, end-ending}
-use Rattle.looking.proofs.Does.{carriedBy, does}
-use Rattle.looking.proofs.State.{sound-after, heard-after, config-after}
+use Rattle.looking.proofs.Does.{carriedBy}
+use Rattle.looking.proofs.State.{given-add, holds}
 use Rattle.looking.proofs.Whole.{half-more, half-none}
 use Rattle.looking.proofs.NoChange.{read-changes-not, other-changes-not, keeps-idle}
 
@@ -91,8 +90,9 @@ module _ (c : Config) (accepted : judged c ≡ Accepted) where
   -- what an event does to the instrument after a history
   moved : (h : History) (e : Event) → meterAfter c (e ∷ h) .instrument ≡ carriedBy c (meterAfter c h .instrument) (keeps c (half h) e)
   moved h e =
-      ap (λ (m : Meter). m .instrument) (does (meterAfter c h) (half h) e (sound-after c accepted h) (heard-after c accepted h))
-      ∙ ap (λ (d : Config). carriedBy d (meterAfter c h .instrument) (keeps d (half h) e)) (config-after c accepted h)
+      holds c accepted (e ∷ h)
+      ∙ sym (given-add c (keeps c (half h) e) (kept c h))
+      ∙ ap (λ (i : Instrument). carriedBy c i (keeps c (half h) e)) (sym (holds c accepted h))
 
   -- a byte of which nothing is kept moves nothing
   byte-still : (h : History) (b place : ℕ) (buffer : List ℕ) → keeps c (half h) (byte b place buffer) ≡ none

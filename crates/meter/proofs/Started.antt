@@ -2,8 +2,8 @@
 use mathlib.Core.Path.{_≡_}
 use mathlib.Core.Bool.{true, _&&_}
 use Rattle.exact.proofs.Z.{both}
-use Rattle.instrument.specs.Instrument.{canScale}
-use Rattle.instrument.proofs.Scale.{scale-tested, scale-steps}
+use Rattle.segments.specs.Segments.{canScale}
+use Rattle.segments.proofs.Scale.{scale-tested, scale-steps}
 use Rattle.effect.specs.Able.{able}
 use Rattle.effect.proofs.Able as abilities
 use Rattle.meter.specs.Door.{started, sound, Sound}
@@ -16,8 +16,7 @@ module _ (m : Meter) (e : sound m ≡ true) where
 
   pub tested : Sound m
   tested =
-      let s = scale-tested (m .config .scale) (parts .0) in
-      record { counted = s .0; scale = s .1; able = abilities.tested (m .config .talking) (m .config .working) (m .instrument) (parts .1) }
+      record { scale = scale-tested (m .config .scale) (parts .0); able = abilities.tested (m .config .talking) (m .config .working) (m .instrument) (parts .1) }
 
   -- a sound meter was started
   pub sound-started : started m ≡ true

@@ -1,16 +1,13 @@
 -- Which meter values are meters that were started, and which test an event has to pass.
-use mathlib.Core.Path.{_≡_}
-use mathlib.Core.Bool.{Bool, true, false, _&&_}
-use lib.IntN.{pos, natAbs}
+use mathlib.Core.Bool.{Bool, _&&_}
+use lib.IntN.{pos}
 use lib.Signed.{ltZ}
-use Rattle.exact.specs.Sign.{isNeg}
-use Rattle.reading.specs.Reading.{Scalable}
-use Rattle.config.specs.declared.Config.{Config}
+use Rattle.segments.specs.Segments.{canScale, Readable}
 use Rattle.receiver.specs.declared.Kind.{Kind}
 use Rattle.receiver.specs.declared.Kind.the-variants.{End, Drop, Part}
-use Rattle.instrument.specs.Instrument.{canScale}
 use Rattle.instrument.specs.declared.Instrument.{Instrument}
 use Rattle.effect.specs.Able.{able, Able}
+use Rattle.meter.specs.declared.Held.{Held}
 use Rattle.meter.specs.declared.Meter.{Meter}
 
 -- a started meter has a rounding step, which every accepted configuration has and the value that a refusal leaves has not
@@ -18,7 +15,7 @@ abbrev pub started : Meter → Bool
 started m = ltZ (pos 0) (m .config .scale .step)
 
 -- settings and an instrument that scaling, counting and showing can lean on
-abbrev pub workable : Config → Instrument → Bool
+abbrev pub workable : Held → Instrument → Bool
 workable c i = canScale (c .scale) && able (c .talking) (c .working) i
 
 -- a sound meter has such
@@ -44,6 +41,5 @@ door hears m = started m
 -- ---- a sound meter by its parts: what the inner functions lean on
 
 pub record Sound (m : Meter) : Type 0 where
-  pub counted : isNeg (m .config .scale .count) ≡ false
-  pub scale : Scalable (m .config .scale .inputs) (m .config .scale .displays) (natAbs (m .config .scale .count)) (m .config .scale .step)
+  pub scale : Readable (m .config .scale .rises) (m .config .scale .runs) (m .config .scale .last) (m .config .scale .step)
   pub able : Able (m .config .talking) (m .config .working) (m .instrument)

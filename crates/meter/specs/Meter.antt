@@ -11,6 +11,8 @@ use Rattle.config.specs.declared.Talking.{Talking}
 use Rattle.config.specs.declared.Working.{Working}
 use Rattle.config.specs.declared.Verdict.{Verdict}
 use Rattle.config.specs.declared.Verdict.the-variants.{Accepted, Broken}
+use Rattle.segments.specs.Segments.{segmentsOf, read}
+use Rattle.segments.specs.declared.Segments.{Segments}
 use Rattle.receiver.specs.Receiver as receivers
 use Rattle.receiver.specs.declared.Receiver.{Receiver}
 use Rattle.receiver.specs.declared.Kind.{Kind}
@@ -45,8 +47,18 @@ withReceiver m r = record { config = m .config; instrument = m .instrument; rece
 
 -- ---- power-up: 0 with a fresh meter, or 11 with the number of the first broken rule
 
+-- what a meter holds of a configuration: a scale, and its settings as they are; the setpoints are the alarms'
+abbrev pub powered : Segments → Config → Meter
+powered s c =
+    record {
+      config = record { scale = s; working = c .working; talking = c .talking };
+      instrument = instruments.poweredUp (c .setpoints);
+      receiver = receivers.silent;
+    }
+
+-- of an accepted one the scale is the segments of its points
 abbrev pub fresh : Config → Meter
-fresh c = record { config = c; instrument = instruments.poweredUp (c .setpoints); receiver = receivers.silent }
+fresh c = powered (segmentsOf (c .scale)) c
 
 -- the one meter value that a refusal leaves
 abbrev pub notStarted : Meter
@@ -62,7 +74,7 @@ poweredUp c = byVerdict c (configs.judged c)
 -- ---- a sample: 0, or 12 to a meter not started
 
 abbrev pub measured : Meter → ℤ → Instrument
-measured m x = instruments.sampled (m .config .working) (m .instrument) (instruments.read (m .config .scale) x)
+measured m x = instruments.sampled (m .config .working) (m .instrument) (read (m .config .scale) x)
 
 abbrev pub sampled : Meter → ℤ → Outcome
 sampled m x = cond (door works m) (outcome Done (withInstrument m (measured m x))) (outcome NotStarted m)

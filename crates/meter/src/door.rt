@@ -1,5 +1,5 @@
 // Which meters are started, and which are sound.
-use config::Config;
+use crate::Held;
 use instrument::Instrument;
 ghost use mathlib.Core.Path.{_≡_};
 ghost use lib.IntN.{pos};
@@ -13,12 +13,12 @@ pub fn is_started(step: i32) -> bool
     0 < step
 }
 
-// Whether a meter with these settings and this instrument has all that scaling, counting and showing lean on.
-pub fn is_sound(config: Config, instrument: Instrument) -> bool
+// Whether a meter that holds these settings and this instrument has all that scaling, counting and showing lean on.
+pub fn is_sound(config: Held, instrument: Instrument) -> bool
     ensures { λ r. ⌜ r ≡ workable config instrument ⌝ }
 {
     if effect::is_able(config.talking, config.working, instrument) {
-        instrument::can_scale(config.scale)
+        scaling::can_scale(config.scale)
     } else {
         false
     }

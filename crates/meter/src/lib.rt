@@ -14,13 +14,21 @@ use effect::Settled;
 use instrument::Instrument;
 use receiver::Kind;
 use receiver::Receiver;
+use segments::Segments;
 ghost use mathlib.Core.Path.{_≡_};
 ghost use Rattle.effect.specs.Able.{Able};
 ghost use Rattle.effect.specs.Effect.{settle};
-ghost use Rattle.meter.specs.Meter.{fresh, poweredUp, sampled, keyed, heardEffect, received};
+ghost use Rattle.meter.specs.Meter.{powered, poweredUp, sampled, keyed, heardEffect, received};
+
+// What a meter holds of its configuration: the scale as segments, what works on a reading, and what talks. The setpoints are the alarms'.
+pub struct Held {
+    pub scale: Segments,
+    pub working: Working,
+    pub talking: Talking,
+}
 
 pub struct Meter {
-    pub config: Config,
+    pub config: Held,
     pub instrument: Instrument,
     pub receiver: Receiver,
 }
@@ -31,15 +39,22 @@ pub struct Outcome {
     pub meter: Meter,
 }
 
-// A meter at power-up.
-fn fresh(config: Config) -> Meter
-    ensures { λ r. ⌜ r ≡ fresh config ⌝ }
+// A meter at power-up, with the scale that was made of its configuration. The setpoints go to the alarms.
+fn fresh(scale: Segments, config: Config) -> Meter
+    ensures { λ r. ⌜ r ≡ powered scale config ⌝ }
 {
     let setpoints = config.setpoints;
     let instrument = instrument::powered_up(setpoints);
     let receiver = receiver::power_up();
+    let working = config.working;
+    let talking = config.talking;
+    let held = Held {
+        scale,
+        working,
+        talking,
+    };
     Meter {
-        config,
+        config: held,
         instrument,
         receiver,
     }
@@ -75,14 +90,15 @@ impl Meter {
         ensures { λ r. ⌜ r ≡ poweredUp config ⌝ }
     {
         let verdict = config::judged(config);
+        let scale = config.scale;
         match verdict {
             Verdict::Accepted => Outcome {
                 answer: Answer::Done,
-                meter: fresh(config),
+                meter: fresh(scaling::made(scale), config),
             },
             Verdict::Broken(rule) => Outcome {
                 answer: Answer::Refused(rule),
-                meter: fresh(config::nothing()),
+                meter: fresh(scaling::none(), config::nothing()),
             },
         }
     }
@@ -94,7 +110,7 @@ impl Meter {
         let mut answer = Answer::NotStarted;
         if is_sound(self.config, self.instrument) {
             let scale = self.config.scale;
-            let reading = instrument::read(scale, input);
+            let reading = scaling::read(scale, input);
             let working = self.config.working;
             self.instrument = instrument::sampled(working, self.instrument, reading);
             answer = Answer::Done;

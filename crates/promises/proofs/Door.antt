@@ -10,8 +10,8 @@ use Rattle.exact.proofs.Z.{both}
 use Rattle.answer.specs.declared.Answer.the-variants.{TooLong}
 use Rattle.receiver.specs.Receiver.{Heard, bytes, too-long, over, kind, taken, heard}
 use Rattle.receiver.specs.declared.Kind.{Kind}
-use Rattle.instrument.specs.Instrument.{canScale}
-use Rattle.instrument.proofs.Scale.{scale-steps}
+use Rattle.segments.specs.Segments.{canScale}
+use Rattle.segments.proofs.Scale.{scale-steps}
 use Rattle.effect.specs.Able.{able}
 use Rattle.effect.specs.Effect.{Effect, stands, settled, settle, told}
 use Rattle.meter.specs.Door.{started, sound, Reach, works, hears, reachOf, door}

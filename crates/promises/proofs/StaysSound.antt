@@ -9,14 +9,15 @@ use Rattle.config.specs.Config.{judged}
 use Rattle.config.specs.declared.Config.{Config}
 use Rattle.config.specs.declared.Working.{Working}
 use Rattle.config.specs.declared.Verdict.the-variants.{Accepted}
-use Rattle.config.proofs.Acceptance.{node-in, places-in, time-base-in, analog-differs}
+use Rattle.config.proofs.Acceptance.{node-in, places-in, scale-accepted, time-base-in, analog-differs}
 use Rattle.receiver.specs.Receiver as receivers
 use Rattle.receiver.specs.declared.Receiver.{Receiver}
 use Rattle.receiver.specs.declared.Kind.{Kind}
 use Rattle.receiver.specs.declared.Kind.the-variants.{End, Drop, Part}
 use Rattle.instrument.specs.Instrument as instruments
 use Rattle.instrument.specs.declared.Instrument.{Instrument}
-use Rattle.instrument.proofs.Scale.{can-scale-accepted}
+use Rattle.segments.specs.Segments.{read}
+use Rattle.segments.proofs.ByPoints.{read-displayable, passes}
 use Rattle.instrument.proofs.Soundness as soundness
 use Rattle.effect.specs.Able.{canTalk, canWork, able}
 use Rattle.effect.specs.Effect.{Effect, settle}
@@ -36,7 +37,7 @@ fresh-sound : (c : Config) → judged c ≡ Accepted → sound (fresh c) ≡ tru
 unfolding sound able
 fresh-sound c a =
     rw (
-      can-scale-accepted c a,
+      passes (c .scale) (scale-accepted c a),
       node-in c a,
       places-in c a,
       time-base-in c a,
@@ -76,7 +77,7 @@ module _ (m : Meter) (e : sound m ≡ true) where
   sampled-sound : (x : ℤ) → sound (left (sample m x)) ≡ true
   sampled-sound x =
       either (λ (o : Outcome). sound (o .meter) ≡ true) (sound m)
-      (with-sound _ (m .receiver) (soundness.sampled-stays (m .config .working) (m .instrument) (able-parts .1) (m .config .scale) x)) e
+      (with-sound _ (m .receiver) (soundness.sampled-stays (m .config .working) (m .instrument) (able-parts .1) (read (m .config .scale) x) (read-displayable (m .config .scale) x))) e
 
   keyed-sound : (k : ℤ) (d : List ℕ) (place : ℕ) → sound (left (key m k d place)) ≡ true
   keyed-sound k d place =

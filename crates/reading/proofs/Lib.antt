@@ -1,5 +1,4 @@
 pub mod Search
-pub mod Fit
 pub mod Walk
 pub mod Scale
 pub mod Laws

@@ -38,7 +38,7 @@ by-test : (b : Bool) (P : ℕ → Type 0) (m k : ℕ) → (b ≡ true → P m) �
 by-test true P m k f g = f refl
 by-test false P m k f g = g refl
 
-from-le : (inputs : List ℤ) (x : ℤ) (i left : ℕ) → firstFrom inputs x i left ≤ i + left
+pub from-le : (inputs : List ℤ) (x : ℤ) (i left : ℕ) → firstFrom inputs x i left ≤ i + left
 unfolding firstFrom
 from-le inputs x i zero = omega arith
 from-le inputs x i (suc left) =

@@ -1,5 +1,5 @@
 -- A walk over the first n places: one place more, and a place that was passed. And what rule 5 gives at each point. Assumes nothing.
-use mathlib.Core.Path.{_≡_}
+use mathlib.Core.Path.{_≡_, refl}
 use mathlib.Core.Bool.{Bool, true, _&&_}
 use mathlib.Core.List.{List}
 use mathlib.Core.Logic.{⊎-elim}
@@ -22,6 +22,11 @@ walk-at test zero i e h = absurd (omega arith)
 walk-at test (suc n) i e h =
     let b = both (upTo test n) (test n) e in
     ⊎-elim (λ q. rw q (b .1)) (λ l. walk-at test n i (b .0) l) (eq-or-lt-of-le (omega arith))
+
+pub walk-all : (test : ℕ → Bool) (n : ℕ) → ((i : ℕ) → i < n → test i ≡ true) → upTo test n ≡ true
+unfolding upTo
+walk-all test zero e = refl
+walk-all test (suc n) e = rw (walk-all test n (λ i h. e i (omega arith)), e n (omega arith))
 
 module _ (inputs displays : List ℤ) (count : ℕ) (e : pointsIn inputs displays count ≡ true) where
   halves : (upTo (pointIn inputs displays) count ≡ true) × (upTo (risesAt inputs) (count - 1) ≡ true)

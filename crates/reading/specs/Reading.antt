@@ -92,16 +92,7 @@ risesAt inputs k = ltZ (point inputs k) (point inputs (k + 1))
 unfoldable pub pointsIn : List ℤ → List ℤ → ℕ → Bool
 pointsIn inputs displays count = upTo (pointIn inputs displays) count && upTo (risesAt inputs) (count - 1)
 
--- ---- what the arithmetic leans on
-
--- two points of an accepted scale, and an input that is scaled
-pub record Points (x0 y0 x1 y1 x : ℤ) : Type 0 where
-  pub left : inInput x0 ≡ true
-  pub right : inInput x1 ≡ true
-  pub rising : ltZ x0 x1 ≡ true
-  pub start : inDisplay y0 ≡ true
-  pub end : inDisplay y1 ≡ true
-  pub input : inInput x ≡ true
+-- ---- an accepted scale
 
 -- what an accepted configuration says of a scale: 2 to 16 points, of those in use inputs from -99,999 to 99,999 that
 -- rise strictly and displays from -19,999 to 99,999, and a step from 1 to 100

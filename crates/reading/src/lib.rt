@@ -2,7 +2,7 @@
 ghost use mathlib.Core.Path.{_≡_};
 ghost use mathlib.Core.Bool.{_&&_};
 ghost use Prim.Native.Nat.{_≤_, _<_};
-ghost use Rattle.reading.specs.Reading.{inInput, inDisplay, segment, onLine, judged, readingOf, displayable, upTo, pointIn, risesAt, pointsIn, Points, Scalable};
+ghost use Rattle.reading.specs.Reading.{inInput, inDisplay, judged, displayable, upTo, pointIn, risesAt, pointsIn};
 
 // A reading: nothing before the first sample, a number, or beyond the display range.
 pub enum Reading {
@@ -12,38 +12,8 @@ pub enum Reading {
     Over,
 }
 
-// The first segment whose right end is not below the input, the last one where none is. Segment k runs from point k to point k + 1.
-fn segment(inputs: &[i32; 16], count: usize, input: i32) -> usize
-    requires { ⌜ (2 ≤ count) × (count ≤ 16) ⌝ }
-    ensures { λ r. ⌜ r ≡ segment (now (inputs .entry)) count input ⌝ }
-{
-    let last = count - 2;
-    let mut i = 0;
-    let found = loop {
-        if last <= i {
-            break last;
-        }
-        if input <= inputs[i + 1] {
-            break i;
-        }
-        i += 1;
-    };
-    found
-}
-
-// The line through (x0, y0) and (x1, y1) at x, as one exact fraction rounded to the nearest whole number.
-fn on_line(x0: i32, y0: i32, x1: i32, y1: i32, x: i32) -> i64
-    requires { ⌜ Points x0 y0 x1 y1 x ⌝ }
-    ensures { λ r. ⌜ r ≡ onLine x0 y0 x1 y1 x ⌝ }
-{
-    let start = y0 as i64;
-    let rise = y1 as i64 - start;
-    let run = x1 as i64 - x0 as i64;
-    exact::nearest(start * run + (x as i64 - x0 as i64) * rise, run)
-}
-
 // What a result reads: a number where the display range holds it.
-fn judged(v: i64) -> Reading
+pub fn judged(v: i64) -> Reading
     ensures { λ r. ⌜ r ≡ judged v ⌝ }
 {
     if v > 99999 {
@@ -53,34 +23,6 @@ fn judged(v: i64) -> Reading
         return Reading::Under;
     }
     Reading::Number(v as i32)
-}
-
-// The reading of an input on a scale of count points.
-pub fn reading_of<'a>(
-    inputs: &'a [i32; 16],
-    displays: &'a [i32; 16],
-    count: usize,
-    step: i32,
-    input: i32,
-) -> Reading
-    requires { ⌜ Scalable (now inputs) (now displays) count step ⌝ }
-    ensures { λ r. ⌜ r ≡ readingOf (now (inputs .entry)) (now (displays .entry)) count step input ⌝ }
-{
-    if input > 99999 {
-        return Reading::Over;
-    }
-    if input < -99999 {
-        return Reading::Under;
-    }
-    let k = segment(inputs, count, input);
-    let whole = on_line(
-        inputs[k],
-        displays[k],
-        inputs[k + 1],
-        displays[k + 1],
-        input,
-    );
-    judged(exact::to_step(whole, step as i64))
 }
 
 // Whether a number lies in the display range.

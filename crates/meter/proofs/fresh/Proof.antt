@@ -10,7 +10,7 @@ power-up-requires : tie.Need-power-up-requires
 power-up-requires c κs = search needs
 
 returns : tie.Need-returns
-returns c = rw (c .before .powered-up .ensures, c .power-up .ensures)
+returns c = let r = c .before .before in rw (r .before .powered-up .ensures, r .power-up .ensures)
 
 pub fresh-spec : {M : Type 1} → statement M
 fresh-spec = tie.close (tie.spec powered-up-requires power-up-requires returns)

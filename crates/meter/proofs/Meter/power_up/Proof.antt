@@ -1,8 +1,17 @@
 -- `meter::Meter::power_up` meets its contract: the verdict decides. Assumes nothing.
 use borrow.Author.Needs.{needs}
-use mathlib.Core.Path.{sym, _∙_}
+use mathlib.Core.Path.{_≡_, sym, _∙_}
+use Rattle.exact.proofs.Z.{from-to}
+use Rattle.config.specs.Config.{judged}
+use Rattle.config.specs.declared.Verdict.the-variants.{Accepted}
+use Rattle.config.proofs.Acceptance.{count-in, scale-accepted}
+use Rattle.segments.proofs.ByPoints.{none-is}
 use Rattle.meter.proofs.Meter.power_up.Statement.{statement}
 use Rattle.meter.proofs.Meter.power_up.Tie as tie
+
+-- the rules are kept
+accepted : (c : tie.After-enum-told) → judged (c .before .before .before .before .args .config) ≡ Accepted
+accepted c = sym (c .before .before .before .judged .ensures) ∙ c .enum-told .given .1
 
 judged-requires : tie.Need-judged-requires
 judged-requires c κs = search needs
@@ -10,11 +19,19 @@ judged-requires c κs = search needs
 enum-told : tie.Need-enum-told
 enum-told c = search needs
 
+made-requires : tie.Need-made-requires
+made-requires c κs =
+    let config = c .before .before .before .before .args .config in
+    (from-to (config .scale .count) 2 16 (count-in config (accepted c)) .0, scale-accepted config (accepted c))
+
 fresh-requires : tie.Need-fresh-requires
 fresh-requires c κs = search needs
 
 enum-known-verdict : tie.Need-enum-known-verdict
 enum-known-verdict c = search needs
+
+none-requires : tie.Need-none-requires
+none-requires c κs = search needs
 
 nothing-requires : tie.Need-nothing-requires
 nothing-requires c κs = search needs
@@ -23,10 +40,13 @@ fresh-requires-2 : tie.Need-fresh-requires-2
 fresh-requires-2 c κs = search needs
 
 returns : tie.Need-returns
-returns c = rw (sym (c .before .before .before .judged .ensures) ∙ c .before .enum-told .given .1, c .fresh .ensures)
+returns c = rw (accepted (c .before .before), c .fresh .ensures, c .before .made .ensures)
 
 returns-2 : tie.Need-returns-2
-returns-2 c = rw (sym (c .before .before .before .before .before .judged .ensures) ∙ c .before .before .before .verdict .given .1, c .fresh2 .ensures, c .before .nothing .ensures)
+returns-2 c =
+    let none = c .before .before in
+    let verdict = none .before .before in
+    rw (sym (verdict .before .before .before .judged .ensures) ∙ verdict .verdict .given .1, c .fresh2 .ensures, c .before .nothing .ensures, none .none .ensures, none-is)
 
 pub power-up-spec : {M : Type 1} → statement M
 power-up-spec =
@@ -34,8 +54,10 @@ power-up-spec =
     (tie.spec
     judged-requires
     enum-told
+    made-requires
     fresh-requires
     enum-known-verdict
+    none-requires
     nothing-requires
     fresh-requires-2
     returns

@@ -20,7 +20,7 @@ is-sound-requires : tie.Need-is-sound-requires
 is-sound-requires c κs = search needs
 
 read-requires : tie.Need-read-requires
-read-requires c κs = let p = parts (c .before) in (p .counted, p .scale)
+read-requires c κs = parts (c .before) .scale
 
 sampled-requires : tie.Need-sampled-requires
 sampled-requires c κs = let a = parts (c .before .before .before) .able in (a .timed, (a .instrument .measured .total, a .differ))

@@ -3,7 +3,7 @@ use borrow.Author.Needs.{needs}
 use mathlib.Core.Path.{_≡_, refl, sym, _∙_}
 use mathlib.Core.Bool.{Bool, true, false, _&&_}
 use Rattle.exact.proofs.Z.{and-false}
-use Rattle.instrument.specs.Instrument.{canScale}
+use Rattle.segments.specs.Segments.{canScale}
 use Rattle.meter.proofs.door.is_sound.Statement.{statement}
 use Rattle.meter.proofs.door.is_sound.Tie as tie
 

@@ -1,4 +1,4 @@
--- `reading::segment` meets its contract. The invariant: the first segment from i on is the one that is looked for. Assumes nothing.
+-- `scaling::segment` meets its contract. The invariant: the first segment from i on is the one that is looked for. Assumes nothing.
 use mathlib.Core.Path.{_≡_, sym, ap, _∙_}
 use mathlib.Core.Bool.{Bool}
 use Prim.Native.Nat.{_≤_, _+_, _-_}
@@ -8,21 +8,18 @@ use mir.Syntax.{w32}
 use mir.Val.{toZ, ofZ}
 use mir.Facts.{toZ-ofZ}
 use Rattle.exact.proofs.Z.{back32}
-use Rattle.reading.specs.Reading.{point, firstFrom, segment}
+use Rattle.reading.specs.Reading.{point, firstFrom}
 use Rattle.reading.proofs.Search.{stop, hit, next}
-use Rattle.reading.proofs.segment.Statement.{statement}
-use Rattle.reading.proofs.segment.Tie as tie
+use Rattle.scaling.proofs.segment.Statement.{statement}
+use Rattle.scaling.proofs.segment.Tie as tie
 
 -- the input is its bits here
 abbrev Inv-loop : tie.InvT-loop
-Inv-loop inputs count input last i₀ i =
+Inv-loop inputs last input i₀ i =
     (i ≤ last) × (firstFrom inputs (toZ w32 input) i (last - i) ≡ firstFrom inputs (toZ w32 input) 0 last)
 
 abbrev μ-loop : tie.MeasureT-loop
-μ-loop inputs count input last i₀ i = last - i
-
-sub-last : tie.Need-sub-last Inv-loop μ-loop
-sub-last c = omega arith
+μ-loop inputs last input i₀ i = last - i
 
 loop-holds : tie.Need-loop-holds Inv-loop μ-loop
 loop-holds c = (omega arith, ap (firstFrom (c .args .inputs .now) (toZ w32 (ofZ w32 (c .args .input))) 0) (omega arith))
@@ -52,13 +49,12 @@ loop-again c =
     (omega arith, sym (next _ _ _ _ (c .before .before .if1 .left) (end (c .before) (c .if2 .left))) ∙ l .loop .inv .1)
 
 -- the invariant, of the input itself
-left : (c : tie.At-loop Inv-loop μ-loop) → firstFrom (c .before .args .inputs .now) (c .before .args .input) (c .loop .i) (c .before .args .count - 2 - c .loop .i) ≡ segment (c .before .args .inputs .now) (c .before .args .count) (c .before .args .input)
-unfolding segment
+left : (c : tie.At-loop Inv-loop μ-loop) → firstFrom (c .before .args .inputs .now) (c .before .args .input) (c .loop .i) (c .before .args .last - c .loop .i) ≡ firstFrom (c .before .args .inputs .now) (c .before .args .input) 0 (c .before .args .last)
 left c = rw (toZ-ofZ (c .before .fits .input)) at (c .loop .inv .1)
 
 returns : tie.Need-returns Inv-loop μ-loop
 returns c =
-    let e : c .before .before .args .count - 2 ≡ c .before .loop .i = omega arith in
+    let e : c .before .before .args .last ≡ c .before .loop .i = omega arith in
     e ∙ sym (stop _ _ _ _ (c .if1 .taken)) ∙ left (c .before)
 
 returns-2 : tie.Need-returns-2 Inv-loop μ-loop
@@ -73,7 +69,6 @@ segment-spec =
     (tie.spec
     Inv-loop
     μ-loop
-    sub-last
     loop-holds
     add-if2
     mul-if2

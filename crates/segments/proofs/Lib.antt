@@ -1,0 +1,5 @@
+pub mod Fit
+pub mod Scale
+pub mod Listed
+pub mod ByPoints
+pub mod Cases
