@@ -7,6 +7,8 @@
 //     N times input    the same to a meter not started
 //     K times number   one key
 //     B times bytes    the bytes by turns
+//     R times          the inputs of M read in bulk, 128 at a time, as often as that many go into the number; the last 16 readings are
+//                      printed, and no meter is given anything
 ghost use Prim.Native.Nat.{_<_};
 ghost use lib.ListN.{length};
 use alarm::Settings;
@@ -186,6 +188,32 @@ fn bytes(m: Meter, list: &[u8], buffer: &mut [u8], times: u64) -> Outcome
     o
 }
 
+// How many inputs are read at once in bulk: eight rounds.
+const ROUNDS: usize = 128;
+
+// So many inputs, one in each segment by turns.
+fn by_turns(inputs: &[i32; 16]) -> [i32; ROUNDS] {
+    let mut list = [0; ROUNDS];
+    let mut i = 0;
+    while i < ROUNDS {
+        list[i] = inputs[i % 16];
+        i += 1;
+    }
+    list
+}
+
+// Read in bulk as often as they go into a number, and once at least.
+fn bulk_readings(m: Meter, inputs: &[i32], readings: &mut [i32], times: u64) -> Answer {
+    let scale = m.config.scale;
+    let mut answer = bulk::read_all(scale, inputs, &mut *readings);
+    let mut left = times;
+    while left > ROUNDS as u64 {
+        answer = bulk::read_all(scale, inputs, &mut *readings);
+        left -= ROUNDS as u64;
+    }
+    answer
+}
+
 // A meter that has had one round of samples, so that it has a reading, a total, a max and a min to show.
 fn started() -> Meter {
     let o = Meter::power_up(cost_config());
@@ -227,6 +255,27 @@ fn put_outcome(o: Outcome, buffer: &mut [u8]) {
     put_answer(printed, &*buffer);
 }
 
+// A reading of these inputs, of which none lies below zero.
+fn put_reading(n: i32) {
+    if n < 0 {
+        io::write_all(STDOUT_FILENO, b" -");
+    } else {
+        io::write_all(STDOUT_FILENO, b" ");
+        io::print_decimal(STDOUT_FILENO, n as u64);
+    }
+}
+
+// What reading in bulk was answered, and a round of the readings.
+fn put_readings(a: Answer, readings: &[i32; ROUNDS]) {
+    io::print_decimal(STDOUT_FILENO, answer::number(a));
+    let mut i = 0;
+    while i < 16 {
+        put_reading(readings[i]);
+        i += 1;
+    }
+    io::write_all(STDOUT_FILENO, b"\n");
+}
+
 fn put_unknown() {
     io::write_all(STDOUT_FILENO, b"?\n");
 }
@@ -263,12 +312,21 @@ fn with_bytes(times: u64, list: &[u8], buffer: &mut [u8]) {
     put_outcome(o, &mut *buffer);
 }
 
+// R, whose readings are in no meter.
+fn in_bulk(times: u64) {
+    let inputs = by_turns(&INPUTS);
+    let mut readings = [0; ROUNDS];
+    let a = bulk_readings(started(), &inputs, &mut readings, times);
+    put_readings(a, &readings);
+}
+
 // The events of a letter, with what stands behind their number.
 fn events(letter: u8, times: u64, rest: &[u8]) {
     let mut buffer = [0u8; 163];
     match letter {
         b'M' => put_outcome(mixed_samples(started(), &INPUTS, times), &mut buffer),
         b'B' => with_bytes(times, rest, &mut buffer),
+        b'R' => in_bulk(times),
         _ => with_number(letter, times, text::read_number(rest), &mut buffer),
     }
 }
