@@ -1,0 +1,5 @@
+pub mod Lines
+pub mod Starts
+pub mod Agree
+pub mod Decide
+pub mod Cases

@@ -1,0 +1,4 @@
+pub mod Rescaling
+pub mod Show
+pub mod Held
+pub mod Meaning
