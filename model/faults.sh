@@ -5,8 +5,12 @@
 #
 # A row of the table has a name, a file and a sed command. The file `kept` is
 # meter.rs as well, of a model that keeps the status number: `keep_status` is put
-# into it before the fault. The command `none` puts no fault in. What it leaves is
-# right, and ends the script with 1 if it is found.
+# into it before the fault. The file `held` is faults/held.rs, of a model that
+# holds segments: `keep_segments` puts it to use. The command `none` puts no fault
+# in. What it leaves is right, and ends the script with 1 if it is found.
+#
+# The rows of `held` go to `rescaled` as well. It starts a program anew for each
+# configuration, so that it cannot see what a later power-up leaves as it was.
 #
 #   ./faults.sh              every row of the table
 #   ./faults.sh NAME ..      only these, each with its shortened history
@@ -40,6 +44,17 @@ s/number_data(self.control_status(), 0)/number_data(self.kept, 0)/
         number_of_bits([0, 1, 2, 3].map(|index| self.alarms[index].is_on()))\
     }\
 
+'
+
+# Makes the model hold segments and read by them, as the core does since document
+# 02: its meter makes them at power-up, `rescale` with the configuration in hand.
+keep_segments='
+s/^pub mod fraction;/&\npub mod held;/
+s/^use crate::reading::{reading_of, Reading};/use crate::held::{held_of, Held};\nuse crate::reading::Reading;/
+s/^    pub configuration: Configuration,/&\n    held: Held,/
+s/^            configuration,/            held: held_of(\&configuration),\n&/
+s/reading_of(&self.configuration, input)/self.held.reading_of(input)/
+s/reading_of(configuration, input)/crate::held::held_of(configuration).reading_of(input)/
 '
 
 # name | file | sed command
@@ -187,6 +202,27 @@ kept-status-lost-by-other-resets | kept | /fn change_by/ s/$/ if matches!(comman
 kept-status-lost-by-a-block | kept | /fn carry_out/ s/$/ if command == Command::BlockPrint { self.kept = 0; }/
 kept-status-lost-by-another-read | kept | /fn carry_out/ s/$/ if matches!(command, Command::Transmit(register) if register != Register::ControlStatus) { self.kept = 0; }/
 kept-status-of-the-meter-before | kept | s/\*self = Meter::Started.*/let mut new = Running::new(configuration); if let Meter::Started(old) = self { new.kept = old.kept; } *self = Meter::Started(Box::new(new));/
+held-segments-and-no-fault | held | none
+held-start-of-the-segment-before | held | /^        input:/ s/left/left.saturating_sub(1)/; /^        display:/ s/left/left.saturating_sub(1)/
+held-input-of-the-right-end | held | /^        input:/ s/left/right/
+held-display-of-the-right-end | held | /^        display:/ s/left/right/
+held-run-for-rise | held | /^        rise:/ s/display/input/g
+held-rise-without-its-sign | held | /^        rise:/ s/rise: \(.*\),/rise: (\1).abs(),/
+held-run-of-the-segment-after | held | s/let segment = self.segments\[index\];/let after = (index + 1).min(self.segments.len() - 1); let segment = Segment { run: self.segments[after].run, ..self.segments[index] };/
+held-search-stops-one-late | held | s/\.unwrap_or(last)/.map_or(last, |index| (index + 1).min(last))/
+held-search-stops-one-early | held | s/\.unwrap_or(last)/.map_or(last, |index| index.saturating_sub(1))/
+held-segment-kept-one-input-late | held | s/segment.run >= input/segment.run + 1 >= input/
+held-segment-left-one-input-early | held | s/segment.run >= input/segment.run > input + 1/
+held-last-segment-never-found | held | s/\.unwrap_or(last)/.unwrap_or(last).min(last.saturating_sub(1))/
+held-first-segment-always | held | s/\.unwrap_or(last)/.map_or(0, |_| 0)/
+held-one-segment-too-many | held | s/configuration.point_count as usize - 1/(configuration.point_count as usize).min(15)/
+held-one-segment-too-few | held | s/configuration.point_count as usize - 1/(configuration.point_count as usize - 2).max(1)/
+held-segments-of-the-first-meter | held | s/segments: \((0\.\.in_use).*collect()\)/segments: { static MADE: std::sync::OnceLock<Vec<Segment>> = std::sync::OnceLock::new(); MADE.get_or_init(|| \1).clone() }/
+held-part-rounded-by-itself | held | s/let whole = .*/let whole = segment.display + nearest(part * segment.rise, segment.run);/
+held-rounded-once | held | s/let whole = .*/let whole = nearest(height, segment.run * self.step) * self.step;/
+held-part-kept-within-the-segment | held | s/let part = \(.*\);/let part = (\1).clamp(0, segment.run);/
+held-product-of-32-bits | held | s/part \* segment.rise/i128::from((&) as i32)/
+held-input-limit-on-the-part | held | s/if input \([<>]\)/if part \1/
 TABLE
 }
 
@@ -197,12 +233,17 @@ spoil() {
     cp src/*.rs "$copy/src/"
     cp src/bin/model.rs "$copy/src/bin/"
     sed -i '/pub mod differ;/d' "$copy/src/lib.rs"
-    sed '/name = "differ"/d; /src\/bin\/differ.rs/d' Cargo.toml |
+    sed '/name = "differ"/d; /src\/bin\/differ.rs/d
+        /name = "rescaled"/d; /src\/bin\/rescaled.rs/d' Cargo.toml |
         awk '/^\[\[bin\]\]/ { if (seen++) next } { print }' > "$copy/Cargo.toml"
     spoilt=$copy/src/$1.rs
     if [ "$1" = kept ]; then
         spoilt=$copy/src/meter.rs
         sed -i "$keep_status" "$spoilt"
+    fi
+    if [ "$1" = held ]; then
+        cp faults/held.rs "$copy/src/"
+        sed -i "$keep_segments" "$copy/src/lib.rs" "$copy/src/meter.rs" "$copy/src/rescale.rs"
     fi
     if [ "$2" != none ]; then
         cp "$spoilt" target/faults.before
@@ -214,6 +255,21 @@ spoil() {
     fi
     RUSTFLAGS=-Awarnings cargo build --quiet --release --offline \
         --manifest-path "$copy/Cargo.toml" --bin model
+}
+
+# Holds a copy's `rescale` against the model by `rescaled`, and tells below the row
+# what comes of it. Without a fault nothing may.
+by_rescaled() {
+    differs=0
+    target/release/rescaled --seed "$seed" --rescale "$copy/target/release/model" rescale \
+        --replay target/release/model > target/faults.out 2>/dev/null || differs=$?
+    readings=$(sed -n 's/^DIFFERENCE after \([0-9]*\) readings.*/\1/p' target/faults.out)
+    case $differs in
+    0) printf '%-34s no difference by rescaled\n' '' ;;
+    1) printf '%-34s found after %8s readings by rescaled\n' '' "$readings" ;;
+    *) printf '%-34s rescaled could not run\n' ''; return 1 ;;
+    esac
+    [ "$1" != none ] || [ "$differs" -eq 0 ]
 }
 
 # Whether the first word is among the others, or there are no others.
@@ -260,5 +316,6 @@ while IFS= read -r row; do
         printf '%-34s NOT FOUND in %s events\n' "$name" "$events"
         missed=1
     fi
+    [ "$file" != held ] || by_rescaled "$edit" || missed=1
 done < target/faults.table
 exit $missed

@@ -3,11 +3,11 @@
 
 use crate::answer::Answer;
 use crate::config::{AlarmSettings, Configuration, Point};
+use crate::lines::number;
 use crate::meter::{Event, Meter};
 
 const BUFFER_LENGTH: usize = 163;
 const MOST_BYTES: usize = 80;
-const MOST_DIGITS: usize = 10;
 
 /// The bench meter with its buffer.
 pub struct Bench {
@@ -80,17 +80,6 @@ impl Bench {
     fn event(&mut self, event: Event) -> Answer {
         self.meter.event(event, &mut self.buffer)
     }
-}
-
-/// An optional minus and 1 to 10 digits, within signed 32 bits.
-fn number(word: &[u8]) -> Option<i32> {
-    let digits = word.strip_prefix(b"-").unwrap_or(word);
-    let good =
-        !digits.is_empty() && digits.len() <= MOST_DIGITS && digits.iter().all(u8::is_ascii_digit);
-    if !good {
-        return None;
-    }
-    std::str::from_utf8(word).ok()?.parse().ok()
 }
 
 /// The bench meter's settings.

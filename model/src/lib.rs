@@ -1,6 +1,7 @@
 //! A model of the panel meter, written from document 01 and from two tickets of
 //! document 02: ticket 2 changes what max and min take, ticket 5 what a number
-//! past a limit sets.
+//! past a limit sets. Ticket 10 changes no reading, and has only its program
+//! `rescale` here.
 //!
 //! Every module carries out one section of document 01 in the plainest way:
 //! wide whole numbers, exact fractions and comparisons, and nothing kept that
@@ -24,6 +25,7 @@ pub mod meter;
 pub mod reading;
 pub mod receiver;
 pub mod reply;
+pub mod rescale;
 pub mod total;
 
 pub mod differ;

@@ -19,6 +19,11 @@ pub const BUFFER_LENGTH: usize = 170;
 /// What the buffer is filled with at each power-up.
 pub const FILLING: u8 = 0xEE;
 
+/// More digits than this make no number, even where they begin with zeros.
+const MOST_DIGITS: usize = 10;
+const MOST_DIGITS_OF_A_PLACE: usize = 20;
+const MOST_DIGITS_OF_A_BYTE: usize = 3;
+
 /// What a line asks for.
 #[derive(Clone, PartialEq, Eq, Debug)]
 pub enum Line {
@@ -128,29 +133,30 @@ fn read_words(words: &[&[u8]]) -> Option<Line> {
         [b"S", input] => Some(Line::Event(Event::Sample(number(input)?))),
         [b"K", key, place] => Some(Line::Event(Event::Key {
             number: number(key)?,
-            place: unsigned(place)?,
+            place: unsigned(place, MOST_DIGITS_OF_A_PLACE)?,
         })),
         [b"B", byte, place] => Some(Line::Event(Event::Byte {
-            byte: u8::try_from(unsigned(byte)?).ok()?,
-            place: unsigned(place)?,
+            byte: u8::try_from(unsigned(byte, MOST_DIGITS_OF_A_BYTE)?).ok()?,
+            place: unsigned(place, MOST_DIGITS_OF_A_PLACE)?,
         })),
         [b"CFG", settings @ ..] => Some(Line::PowerUp(Box::new(configuration(settings)?))),
         _ => None,
     }
 }
 
-/// A signed 32-bit number: an optional minus and digits.
-fn number(word: &[u8]) -> Option<i32> {
+/// A signed 32-bit number: an optional minus and 1 to 10 digits. The bench
+/// program and `rescale` have the same numbers (Bench program, sentence 3).
+pub fn number(word: &[u8]) -> Option<i32> {
     let digits = word.strip_prefix(b"-").unwrap_or(word);
-    if !all_digits(digits) {
+    if !all_digits(digits) || digits.len() > MOST_DIGITS {
         return None;
     }
     std::str::from_utf8(word).ok()?.parse().ok()
 }
 
-/// An unsigned 64-bit number: digits only.
-fn unsigned(word: &[u8]) -> Option<u64> {
-    if !all_digits(word) {
+/// An unsigned 64-bit number: digits only, and so many at most.
+fn unsigned(word: &[u8], most_digits: usize) -> Option<u64> {
+    if !all_digits(word) || word.len() > most_digits {
         return None;
     }
     std::str::from_utf8(word).ok()?.parse().ok()
@@ -369,8 +375,8 @@ fn put_hex(bytes: &[u8], output: &mut Vec<u8>) {
     }
 }
 
-/// A value as the state line prints it.
-enum Shown {
+/// A value as the state line prints it, and a reading as `rescale` does.
+pub enum Shown {
     Number(i128),
     Over,
     Under,

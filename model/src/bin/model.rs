@@ -1,8 +1,10 @@
 //! Reads recorded histories on standard input and prints the model's line for
-//! each of their lines. With the word `bench` it is the bench program instead.
+//! each of their lines. With the word `bench` it is the bench program instead,
+//! with the word `rescale` the program that reads inputs and nothing else.
 
 use meter_model::bench::Bench;
 use meter_model::lines::Replay;
+use meter_model::rescale::Rescale;
 use std::io::{self, BufRead, Write};
 use std::process::ExitCode;
 
@@ -23,8 +25,12 @@ fn main() -> ExitCode {
             let mut bench = Bench::new();
             each_line(|line, output| bench.line(line, output))
         }
+        ["rescale"] => {
+            let mut rescale = Rescale::new();
+            each_line(|line, output| rescale.line(line, output))
+        }
         _ => {
-            eprintln!("usage: model [bench] < history");
+            eprintln!("usage: model [bench | rescale] < history");
             return ExitCode::from(2);
         }
     };

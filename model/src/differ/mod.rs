@@ -1,17 +1,22 @@
 //! The differential test: random histories by seed, fed to the model and to
-//! another program, and compared line by line.
+//! another program, and compared line by line; and its smaller sister, which
+//! feeds inputs to a program that reads them and does nothing else.
 
 pub mod broken;
 pub mod captures;
 pub mod compare;
 pub mod floods;
 pub mod histories;
+pub mod inputs;
 pub mod limits;
 pub mod other;
 pub mod places;
 pub mod random;
+pub mod rescaling;
 pub mod run_tally;
 pub mod samples;
+pub mod scale_tally;
+pub mod scales;
 pub mod script;
 pub mod settings;
 pub mod shorten;

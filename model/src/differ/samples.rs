@@ -34,7 +34,8 @@ pub fn any_input(script: &mut Script) -> i64 {
     }
 }
 
-fn limit_input(script: &mut Script) -> i64 {
+/// At a limit of the input, beside it, or at an end of 32 bits.
+pub fn limit_input(script: &mut Script) -> i64 {
     script.random.pick(&[
         99_999,
         -99_999,
@@ -49,7 +50,7 @@ fn limit_input(script: &mut Script) -> i64 {
 }
 
 /// At a point's input, beside it, or half way to the next.
-fn input_at_points(script: &mut Script) -> i64 {
+pub fn input_at_points(script: &mut Script) -> i64 {
     let points = points_in_use(script);
     let point = i64::from(script.random.pick(&points).input);
     let other = i64::from(script.random.pick(&points).input);

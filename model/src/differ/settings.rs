@@ -7,6 +7,11 @@ use crate::config::{AlarmSettings, Configuration, Point, HIGHEST_DISPLAY, LOWEST
 /// small that they complete.
 pub fn good_settings(random: &mut Random) -> Configuration {
     let point_count = point_count(random);
+    settings_with_points(random, point_count)
+}
+
+/// The same with so many points in use.
+pub fn settings_with_points(random: &mut Random, point_count: i32) -> Configuration {
     let points = points(random, point_count as usize);
     let near = middle_display(&points[..point_count as usize]);
     let (analog_low, analog_high) = analog_ends(random, near);
@@ -57,11 +62,14 @@ fn node(random: &mut Random) -> i32 {
     }
 }
 
+/// The rounding steps that rule 3 takes.
+pub const STEPS: [i32; 7] = [1, 2, 5, 10, 20, 50, 100];
+
 fn rounding(random: &mut Random) -> i32 {
     if random.one_in(2) {
         1
     } else {
-        random.pick(&[1, 2, 5, 10, 20, 50, 100])
+        random.pick(&STEPS)
     }
 }
 
