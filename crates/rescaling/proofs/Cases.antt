@@ -14,7 +14,8 @@ use Rattle.text.specs.Line.{kept}
 use Rattle.text.specs.Number.{digits, value, naturalOf, signedOf, numberOf, flagOf}
 use Rattle.text.specs.Numeral.{fewest, numeral}
 use Rattle.rescaling.specs.Rescaling.{startOf, inputHeard}
-use Rattle.rescaling.specs.Show.{signed, readingLine, shownOf, laterLines, allShown}
+use Rattle.signed.specs.Signed.{signed}
+use Rattle.rescaling.specs.Show.{readingLine, shownOf, laterLines, allShown}
 
 -- pieces as one text
 abbrev whole : List (List ℕ) → List ℕ

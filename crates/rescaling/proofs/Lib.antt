@@ -1,4 +1,3 @@
-pub mod Lines
 pub mod Starts
 pub mod Agree
 pub mod Decide

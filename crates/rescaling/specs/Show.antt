@@ -1,9 +1,7 @@
 -- What is printed, piece by piece: of what a line is told, and of all lines.
 use Prim.Native.Nat.{ℕ}
-use mathlib.Core.Bool.{cond}
 use mathlib.Core.List.{List, [], _∷_, _++_}
-use lib.IntN.{ℤ, natAbs}
-use Rattle.exact.specs.Sign.{isNeg}
+use lib.IntN.{ℤ}
 use Rattle.answer.specs.Answer.{number, value}
 use Rattle.answer.specs.declared.Answer.{Answer}
 use Rattle.reading.specs.declared.Reading.{Reading}
@@ -11,6 +9,7 @@ use Rattle.reading.specs.declared.Reading.the-variants as reading
 use Rattle.register.specs.Bytes.{ascii}
 use Rattle.text.specs.Line.{kept}
 use Rattle.text.specs.Numeral.{numeral}
+use Rattle.signed.specs.Signed.{signed}
 use Rattle.rescaling.specs.Rescaling.{Start, startOf, firstTold, laterTold}
 use Rattle.rescaling.specs.declared.Said.{Said}
 use Rattle.rescaling.specs.declared.Said.the-variants.{Configured, Read, Unknown, Silence}
@@ -20,10 +19,6 @@ use Rattle.rescaling.specs.declared.Said.the-variants.{Configured, Read,
 -- a word and LF in one piece
 abbrev pub ended : List ℕ → List (List ℕ)
 ended word = (word ++ (10 ∷ [])) ∷ []
-
--- a number with its sign
-unfoldable pub signed : ℤ → List (List ℕ)
-signed z = cond (isNeg z) (ascii "-" ∷ numeral (natAbs z) ∷ []) (numeral (natAbs z) ∷ [])
 
 abbrev pub numberLine : ℤ → List (List ℕ)
 numberLine z = signed z ++ ((10 ∷ []) ∷ [])

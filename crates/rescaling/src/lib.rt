@@ -1,13 +1,12 @@
 // The lines of the program that rescales: what the first line makes of the program, what every later line is told, and what is printed.
 ghost use mathlib.Core.Path.{_≡_};
 ghost use mathlib.Core.Bool.{true};
-ghost use lib.IntN.{natAbs};
 ghost use Rattle.text.specs.Line.{heard};
 ghost use Rattle.text.specs.Output.{waiting, puts};
 ghost use Rattle.config.specs.Config.{judged};
 ghost use Rattle.rescaling.specs.Rescaling.{byVerdict, inputHeard};
 ghost use Rattle.rescaling.specs.Held.{openedAs, opened, without, awaits, lists, saidBy, sound};
-ghost use Rattle.rescaling.specs.Show.{signed, numberLine, answerLine, readingLine, shownOf};
+ghost use Rattle.rescaling.specs.Show.{numberLine, answerLine, readingLine, shownOf};
 use answer::Answer;
 use config::Config;
 use config::Verdict;
@@ -15,6 +14,7 @@ use reading::Reading;
 use record::Event;
 use record::WORDS;
 use segments::Segments;
+use signed::put_number;
 use text::KEPT;
 use text::Number;
 use text::output::Out;
@@ -155,34 +155,11 @@ pub fn told<'a>(
 
 // ---- what is printed
 
-// The size of a number, also of the least one, whose size has no sign that fits 32 bits.
-fn size_of(z: i32) -> u64
-    ensures { λ r. ⌜ r ≡ natAbs z ⌝ }
-{
-    let wide = z as i64;
-    if wide < 0 {
-        (0 - wide) as u64
-    } else {
-        wide as u64
-    }
-}
-
-// A number with its sign.
-fn put_number(buf: &mut [u8], o: Out, z: i32) -> Out
-    ensures { λ r. ⌜ waiting (r .at) (now (buf .exit)) ≡ puts (waiting (o .at) (now (buf .entry))) (signed z) ⌝ }
-{
-    if z < 0 {
-        let p = put(&mut *buf, o, b"-");
-        return put_natural(&mut *buf, p, size_of(z));
-    }
-    put_natural(&mut *buf, o, size_of(z))
-}
-
 // A number's line.
 fn put_number_line(buf: &mut [u8], o: Out, z: i32) -> Out
     ensures { λ r. ⌜ waiting (r .at) (now (buf .exit)) ≡ puts (waiting (o .at) (now (buf .entry))) (numberLine z) ⌝ }
 {
-    let p = put_number(&mut *buf, o, z);
+    let p = put_number(&mut *buf, o, z as i64);
     put(&mut *buf, p, b"\n")
 }
 

@@ -15,7 +15,8 @@ use Rattle.register.specs.Bytes.{ascii}
 use Rattle.text.specs.Numeral.{fewest, numeral}
 use Rattle.total.specs.Total as total
 use Rattle.meter.specs.Meter.{notStarted}
-use Rattle.show.specs.Show.{signed, named, counted, hex, powerLine, readingWord, quotientOf, totalWords, trimmed, bufferWords, streakWords, extremeWords, measuredWords, setpointWords, stateWords, runWords, alarmWords, modeWords, outputWords, receivedWords, meterWords, eventLine}
+use Rattle.signed.specs.Signed.{signed}
+use Rattle.show.specs.Show.{named, counted, hex, powerLine, readingWord, quotientOf, totalWords, trimmed, bufferWords, streakWords, extremeWords, measuredWords, setpointWords, stateWords, runWords, alarmWords, modeWords, outputWords, receivedWords, meterWords, eventLine}
 
 -- pieces as one text
 abbrev whole : List (List ℕ) → List ℕ

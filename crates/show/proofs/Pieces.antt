@@ -24,17 +24,9 @@ use Rattle.total.specs.Total.{unitOf, quotient}
 use Rattle.total.specs.declared.Totalizer.{Totalizer}
 use Rattle.text.specs.Numeral.{numeral}
 use Rattle.text.specs.Output.{Waiting, putIn, puts}
-use Rattle.show.specs.Show.{signed, hexByte, hex, quotientOf, kept, unwritten, trimmed, bufferWords, receivedWords, meterWords, isNotStarted, answerHead, eventLine}
+use Rattle.show.specs.Show.{hexByte, hex, quotientOf, kept, unwritten, trimmed, bufferWords, receivedWords, meterWords, isNotStarted, answerHead, eventLine}
 
 -- ---- a sign
-
-pub signed-neg : (z : ℤ) → isNeg z ≡ true → (ascii "-" ∷ numeral (natAbs z) ∷ []) ≡ signed z
-unfolding signed
-signed-neg z e = rw e
-
-pub signed-pos : (z : ℤ) → isNeg z ≡ false → (numeral (natAbs z) ∷ []) ≡ signed z
-unfolding signed
-signed-pos z e = rw e
 
 -- ---- hexadecimal
 

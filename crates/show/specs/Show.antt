@@ -3,15 +3,15 @@ use Prim.Native.Nat.{ℕ, _/_, _%_}
 use mathlib.Core.Bool.{Bool, cond}
 use mathlib.Core.List.{List, [], _∷_, _++_, map}
 use lib.Dec.{eqb}
-use lib.IntN.{ℤ, pos, natAbs}
+use lib.IntN.{ℤ, pos}
 use lib.ListN.{take}
 use lib.Signed.{ltZ}
 use Rattle.io.specs.Digits.{glyph}
-use Rattle.exact.specs.Sign.{isNeg}
 use Rattle.answer.specs.Answer as answers
 use Rattle.answer.specs.declared.Answer.{Answer}
 use Rattle.register.specs.Bytes.{ascii}
 use Rattle.text.specs.Numeral.{numeral}
+use Rattle.signed.specs.Signed.{signed}
 use Rattle.reading.specs.declared.Reading.{Reading}
 use Rattle.reading.specs.declared.Reading.the-variants as reading
 use Rattle.extremes.specs.Extremes as extremes
@@ -34,10 +34,6 @@ use Rattle.total.specs.declared.Range.{Range}
 use Rattle.total.specs.declared.Range.the-variants as range
 
 -- ---- numbers
-
--- a number with its sign
-unfoldable pub signed : ℤ → List (List ℕ)
-signed z = cond (isNeg z) (ascii "-" ∷ numeral (natAbs z) ∷ []) (numeral (natAbs z) ∷ [])
 
 -- a name, and a number
 unfoldable pub named : List ℕ → ℤ → List (List ℕ)

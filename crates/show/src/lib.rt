@@ -1,11 +1,10 @@
 // What a line of the replayed history shows: the answer, the whole state of the meter, and the buffer.
 ghost use mathlib.Core.Path.{_≡_};
 ghost use Prim.Native.Nat.{_≤_};
-ghost use lib.IntN.{natAbs};
 ghost use mathlib.Core.List.{[], _∷_};
 ghost use lib.ListN.{length, take};
 ghost use Rattle.text.specs.Output.{waiting, puts};
-ghost use Rattle.show.specs.Show.{signed, named, counted, hexByte, hex, answerPieces, powerLine, readingWord, quotientOf, totalWords, trimmed, bufferWords, streakWords, extremeWords, measuredWords, setpointWords, onDigit, stateWords, runWords, alarmWords, modeWords, outputWords, receivedWords, meterWords, isNotStarted, eventLine};
+ghost use Rattle.show.specs.Show.{named, counted, hexByte, hex, answerPieces, powerLine, readingWord, quotientOf, totalWords, trimmed, bufferWords, streakWords, extremeWords, measuredWords, setpointWords, onDigit, stateWords, runWords, alarmWords, modeWords, outputWords, receivedWords, meterWords, isNotStarted, eventLine};
 use alarm::Alarm;
 use answer::Answer;
 use extremes::Extreme;
@@ -16,6 +15,7 @@ use outputs::Mode;
 use outputs::Outputs;
 use reading::Reading;
 use receiver::Receiver;
+use signed::put_number;
 use text::output::Out;
 use text::output::put;
 use text::output::put_natural;
@@ -25,27 +25,6 @@ use total::Totalizer;
 
 // What stands in every byte of a reply buffer that nothing was written to. It is left out where it stands at the end.
 pub const UNWRITTEN: u8 = 238;
-
-// The size of a signed number, also of the least one, whose size has no sign that fits.
-fn size_of(z: i64) -> u64
-    ensures { λ r. ⌜ r ≡ natAbs z ⌝ }
-{
-    if z < 0 {
-        (0 - (z + 1)) as u64 + 1
-    } else {
-        z as u64
-    }
-}
-
-fn put_number(buf: &mut [u8], o: Out, z: i64) -> Out
-    ensures { λ r. ⌜ waiting (r .at) (now (buf .exit)) ≡ puts (waiting (o .at) (now (buf .entry))) (signed z) ⌝ }
-{
-    if z < 0 {
-        let p = put(&mut *buf, o, b"-");
-        return put_natural(&mut *buf, p, size_of(z));
-    }
-    put_natural(&mut *buf, o, size_of(z))
-}
 
 // A word of the line: its name, and a number.
 fn put_named(buf: &mut [u8], o: Out, name: &[u8], z: i64) -> Out

@@ -2,7 +2,8 @@
 use mathlib.Core.Path.{ap}
 use mathlib.Core.List.{[], _∷_}
 use mir.Facts.{toZ-ofZ}
-use Rattle.show.specs.Show.{signed, named}
+use Rattle.signed.specs.Signed.{signed}
+use Rattle.show.specs.Show.{named}
 use Rattle.text.proofs.Pieces.{one, next, alike}
 use borrow.Author.Needs.{needs}
 use Rattle.show.proofs.put_named.Statement.{statement}

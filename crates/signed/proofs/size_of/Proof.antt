@@ -1,4 +1,4 @@
--- `show::size_of` meets its contract: a number below zero is one less than one that has its size with a sign. Assumes nothing.
+-- `signed::size_of` meets its contract: a number below zero is one less than one that has its size with a sign. Assumes nothing.
 use native.Mathlib.Omega.{arith}
 use mathlib.Core.Path.{_≡_, ap, _∙_}
 use mathlib.Core.Bool.{true}
@@ -9,9 +9,9 @@ use mir.Val.{toZ, ofZ}
 use mir.Facts.{toZ-ofZ}
 use Rattle.exact.specs.Sign.{isNeg}
 use Rattle.exact.proofs.Z.{rd, fits-as, neg-is, nonNeg-is}
-use Rattle.show.proofs.Signs.{up, size, small, pos-fits, neg-fits, down, from-zero}
-use Rattle.show.proofs.size_of.Statement.{statement}
-use Rattle.show.proofs.size_of.Tie as tie
+use Rattle.signed.proofs.Signs.{up, size, small, pos-fits, neg-fits, down, from-zero}
+use Rattle.signed.proofs.size_of.Statement.{statement}
+use Rattle.signed.proofs.size_of.Tie as tie
 
 below : (c : tie.Then1) → isNeg (c .before .args .z) ≡ true
 below c = neg-is (c .before .fits .z) (c .if1 .taken)

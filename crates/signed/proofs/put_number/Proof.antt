@@ -1,4 +1,4 @@
--- `rescaling::put_number` meets its contract: the sign is put where the number is below zero. Assumes nothing.
+-- `signed::put_number` meets its contract: the sign is put where the number is below zero. Assumes nothing.
 use mathlib.Core.Path.{ap, _∙_}
 use mathlib.Core.List.{[], _∷_}
 use lib.IntN.{natAbs}
@@ -7,10 +7,10 @@ use Rattle.exact.proofs.Z.{neg-is}
 use Rattle.register.specs.Bytes.{ascii}
 use Rattle.text.specs.Numeral.{numeral}
 use Rattle.text.proofs.Pieces.{one, next, alike}
-use Rattle.rescaling.proofs.Lines.{signed-neg, signed-pos}
+use Rattle.signed.proofs.Signs.{signed-neg, signed-pos}
 use borrow.Author.Needs.{needs}
-use Rattle.rescaling.proofs.put_number.Statement.{statement}
-use Rattle.rescaling.proofs.put_number.Tie as tie
+use Rattle.signed.proofs.put_number.Statement.{statement}
+use Rattle.signed.proofs.put_number.Tie as tie
 
 slice-aggregate-put : tie.Need-slice-aggregate-put
 slice-aggregate-put c = search needs
