@@ -24,18 +24,19 @@ pub fn read_all(s: Segments, inputs: &[i32], readings: &mut [i32]) -> Answer
     ensures { λ r. ⌜ r ≡ answered s ⌝ }
     ensures { λ _. ⌜ now (readings .exit) ≡ left s (now (inputs .entry)) (now (readings .entry)) ⌝ }
 {
-    if !scaling::can_scale(s) {
-        return Answer::NotStarted;
-    }
-    let last = s.last as usize;
+    let last = s.last;
     let step = s.step;
     let starts = s.inputs;
     let displays = s.displays;
     let rises = s.rises;
     let runs = s.runs;
+    if !scaling::is_tested(step, last, rises, runs) {
+        return Answer::NotStarted;
+    }
+    let at = last as usize;
     let mut i = 0;
     while (i < inputs.len()) & (i < readings.len()) {
-        let r = scaling::reading_of(&starts, &displays, &rises, &runs, last, step, inputs[i]);
+        let r = scaling::reading_of(&starts, &displays, &rises, &runs, at, step, inputs[i]);
         readings[i] = number_of(r);
         i += 1;
     }

@@ -163,8 +163,9 @@ fn segments_in(rises: [i32; 15], runs: [i32; 15]) -> bool
     all
 }
 
-// The test of a scale's parts. A call takes two of its lists and not the whole.
-fn is_tested(step: i32, last: u32, rises: [i32; 15], runs: [i32; 15]) -> bool
+// The test of a scale's parts. Whoever has the parts asks it of them: a call that takes the whole is handed a copy of the whole, and one
+// that takes two lists no more than these.
+pub fn is_tested(step: i32, last: u32, rises: [i32; 15], runs: [i32; 15]) -> bool
     ensures { λ r. ⌜ r ≡ tested step last rises runs ⌝ }
 {
     exact::is_within(step, 1, 100) & (last < 15) & segments_in(rises, runs)

@@ -26,36 +26,40 @@ scaleOf step last starts displays rises runs =
     record { step = toZ w32 step; last = last; inputs = starts; displays = displays; rises = rises; runs = runs }
 
 abbrev Inv-loop : tie.InvT-loop
-Inv-loop inputs readings₀ last step starts displays rises runs i₀ readings i =
+Inv-loop inputs readings₀ last step starts displays rises runs at₀ i₀ readings i =
     (i ≤ length inputs) × (readings ≡ readInto (scaleOf step last starts displays rises runs) (take i inputs) readings₀)
 
 abbrev μ-loop : tie.MeasureT-loop
-μ-loop inputs readings₀ last step starts displays rises runs i₀ readings i = length inputs - i
+μ-loop inputs readings₀ last step starts displays rises runs at₀ i₀ readings i = length inputs - i
 
 -- the step's bits are its number
 step-back : (c : tie.Start Inv-loop μ-loop) → toZ w32 (ofZ w32 (c .args .s .step)) ≡ c .args .s .step
 step-back c = search needs
 
--- the scale passed the test
-passed : (c : tie.Else1 Inv-loop μ-loop) → canScale (c .before .before .args .s) ≡ true
-passed c = sym (c .before .can-scale .ensures) ∙ turned-false _ (c .if1 .left)
+-- the test of the scale
+tested : (c : tie.After-is-tested Inv-loop μ-loop) → c .is-tested .result ≡ canScale (c .before .before .before .before .before .before .args .s)
+tested c = c .is-tested .ensures ∙ rw (step-back (c .before .before .before .before .before .before))
+
+-- which it passed
+passed : (c : tie.Else1 Inv-loop μ-loop) → canScale (c .before .before .before .before .before .before .before .args .s) ≡ true
+passed c = sym (tested (c .before)) ∙ turned-false _ (c .if1 .left)
 
 -- there is an input at i, and a place
-going : (c : tie.In-loop Inv-loop μ-loop) → (c .before .loop .i < length (c .before .before .before .before .before .before .before .before .before .before .args .inputs .now)) × (c .before .loop .i < length (c .before .loop .readings))
+going : (c : tie.In-loop Inv-loop μ-loop) → (c .before .loop .i < length (c .before .before .before .before .before .before .before .before .before .args .inputs .now)) × (c .before .loop .i < length (c .before .loop .readings))
 going c =
     let l = c .before .loop in
-    let xs = c .before .before .before .before .before .before .before .before .before .before .args .inputs .now in
+    let xs = c .before .before .before .before .before .before .before .before .before .args .inputs .now in
     let b = both (ltb (l .i) (length xs)) (ltb (l .i) (length (l .readings))) (c .loop-test .taken) in
     (ltb-true (l .i) (length xs) (b .0), ltb-true (l .i) (length (l .readings)) (b .1))
 
-can-scale-requires : tie.Need-can-scale-requires Inv-loop μ-loop
-can-scale-requires c κs = search needs
+is-tested-requires : tie.Need-is-tested-requires Inv-loop μ-loop
+is-tested-requires c κs = search needs
 
 returns : tie.Need-returns Inv-loop μ-loop
-returns c = let e = sym (c .before .can-scale .ensures) ∙ turned-true _ (c .if1 .taken) in rw e (refl, refl)
+returns c = let e = sym (tested (c .before)) ∙ turned-true _ (c .if1 .taken) in rw e (refl, refl)
 
-cast-last : tie.Need-cast-last Inv-loop μ-loop
-cast-last c = search needs
+cast-at : tie.Need-cast-at Inv-loop μ-loop
+cast-at c = search needs
 
 loop-holds : tie.Need-loop-holds Inv-loop μ-loop
 unfolding readInto
@@ -69,14 +73,15 @@ shared-slice-copy-out-reading-of c = going (c .before .before .before .before) .
 
 reading-of-requires : tie.Need-reading-of-requires Inv-loop μ-loop
 reading-of-requires c κs =
-    let e = c .before .before .before .before .before .before .before .before .before .before .before .before .before in
-    rw (step-back (e .before .before)) (scale-tested (e .before .before .args .s) (passed e))
+    let e = c .before .before .before .before .before .before .before in
+    let s = e .before .before .before .before .before .before .before in
+    rw (step-back s) (scale-tested (s .args .s) (passed e))
 
 number-of-requires : tie.Need-number-of-requires Inv-loop μ-loop
 number-of-requires c κs = search needs
 
-mul-t16 : tie.Need-mul-t16 Inv-loop μ-loop
-mul-t16 c = omega (arith, going (c .before .before .before .before .before .before .before) .0)
+mul-t19 : tie.Need-mul-t19 Inv-loop μ-loop
+mul-t19 c = omega (arith, going (c .before .before .before .before .before .before .before) .0)
 
 slice-set-from-readings : tie.Need-slice-set-from-readings Inv-loop μ-loop
 slice-set-from-readings c = going (c .before .before .before .before .before .before .before) .1
@@ -92,7 +97,7 @@ loop-again c =
     let r = c .before in
     let g = r .before .before .before .before .before .before in
     let l = g .before .loop in
-    let s = g .before .before .before .before .before .before .before .before .before .before in
+    let s = g .before .before .before .before .before .before .before .before .before in
     let a = s .args in
     let scale = scaleOf (ofZ w32 (a .s .step)) (a .s .last) (a .s .inputs) (a .s .displays) (a .s .rises) (a .s .runs) in
     let xs = a .inputs .now in
@@ -107,14 +112,14 @@ loop-again c =
 same-length : tie.Need-same-length Inv-loop μ-loop
 same-length c =
     let l = c .before .loop in
-    let a = c .before .before .before .before .before .before .before .before .before .before .args in
+    let a = c .before .before .before .before .before .before .before .before .before .args in
     ap length (l .inv .1) ∙ read-length (scaleOf (ofZ w32 (a .s .step)) (a .s .last) (a .s .inputs) (a .s .displays) (a .s .rises) (a .s .runs)) (take (l .i) (a .inputs .now)) (a .readings .now)
 
 returns-2 : tie.Need-returns-2 Inv-loop μ-loop
 returns-2 c =
     let l = c .before .loop in
-    let e = c .before .before .before .before .before .before .before .before in
-    let s = e .before .before in
+    let e = c .before .before in
+    let s = e .before .before .before .before .before .before .before in
     let scale = scaleOf (ofZ w32 (s .args .s .step)) (s .args .s .last) (s .args .s .inputs) (s .args .s .displays) (s .args .s .rises) (s .args .s .runs) in
     let xs = s .args .inputs .now in
     let into = s .args .readings .now in
@@ -128,15 +133,15 @@ read-all-spec =
     (tie.spec
     Inv-loop
     μ-loop
-    can-scale-requires
+    is-tested-requires
     returns
-    cast-last
+    cast-at
     loop-holds
     mul-reading-of
     shared-slice-copy-out-reading-of
     reading-of-requires
     number-of-requires
-    mul-t16
+    mul-t19
     slice-set-from-readings
     add-i
     loop-less
