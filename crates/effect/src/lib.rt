@@ -100,13 +100,13 @@ fn write(working: Working, i: Instrument, register: usize, z: i32) -> Settled
 {
     let outputs = i.outputs;
     let mode = outputs.mode;
-    if instrument::is_shut(mode, register) {
+    if operating::is_shut(mode, register) {
         return Settled {
             answer: Answer::InAutomatic,
             instrument: i,
         };
     }
-    done(instrument::write_register(working, i, register, z))
+    done(operating::write_register(working, i, register, z))
 }
 
 // What is asked of this meter.
@@ -126,9 +126,9 @@ fn carry_out(
     match asked {
         Asked::Read(register) => line(talking, working, i, register, buffer, place),
         Asked::Print => block(talking, working, i, buffer, place),
-        Asked::Reset(register) => done(instrument::reset_register(working, i, register)),
+        Asked::Reset(register) => done(operating::reset_register(working, i, register)),
         Asked::Write(register, z) => write(working, i, register, z),
-        Asked::Status(b) => done(instrument::write_status(working, i, b)),
+        Asked::Status(b) => done(operating::write_status(working, i, b)),
         Asked::BadForm => Settled {
             answer: Answer::BadForm,
             instrument: i,
@@ -178,7 +178,7 @@ fn batch(working: Working, i: Instrument) -> Settled
 {
     let totalizer = working.totalizer;
     if totalizer.batch {
-        done(instrument::batched(working, i))
+        done(operating::batched(working, i))
     } else {
         Settled {
             answer: Answer::UnknownKey,
@@ -202,10 +202,10 @@ pub fn press(
 {
     match number {
         1 => batch(working, i),
-        2 => done(instrument::reset_register(working, i, register::TOT)),
-        3 => done(instrument::reset_register(working, i, register::MAX)),
-        4 => done(instrument::reset_register(working, i, register::MIN)),
-        5 => done(instrument::reset_alarms(working, i)),
+        2 => done(operating::reset_register(working, i, register::TOT)),
+        3 => done(operating::reset_register(working, i, register::MAX)),
+        4 => done(operating::reset_register(working, i, register::MIN)),
+        5 => done(operating::reset_alarms(working, i)),
         6 => block(talking, working, i, buffer, place),
         _ => Settled {
             answer: Answer::UnknownKey,
@@ -238,7 +238,7 @@ pub fn is_able(talking: Talking, working: Working, i: Instrument) -> bool
     ensures { λ r. ⌜ r ≡ able talking working i ⌝ }
 {
     if can_talk(talking) & can_work(working) {
-        instrument::is_sound(working, i)
+        operating::is_sound(working, i)
     } else {
         false
     }

@@ -52,8 +52,8 @@ pub fn read(
 {
     let style = style(talking);
     let all = talking.places;
-    let places = instrument::places_at(all, register);
-    let shown = instrument::shown_at(working, i, register);
+    let places = operating::places_at(all, register);
+    let shown = operating::shown_at(working, i, register);
     line::write_line(buffer, place, style, register, places, shown)
 }
 
@@ -65,13 +65,13 @@ fn values(places: Places, working: Working, i: Instrument) -> Values
     ensures { λ r. ⌜ r ≡ values places working i ⌝ }
 {
     let shown = block::Places {
-        input: instrument::places_at(places, register::INP),
-        total: instrument::places_at(places, register::TOT),
+        input: operating::places_at(places, register::INP),
+        total: operating::places_at(places, register::TOT),
     };
-    let input = instrument::shown_at(working, i, register::INP);
-    let total = instrument::shown_at(working, i, register::TOT);
-    let max = instrument::shown_at(working, i, register::MAX);
-    let min = instrument::shown_at(working, i, register::MIN);
+    let input = operating::shown_at(working, i, register::INP);
+    let total = operating::shown_at(working, i, register::TOT);
+    let max = operating::shown_at(working, i, register::MAX);
+    let min = operating::shown_at(working, i, register::MIN);
     let alarms = i.alarms;
     let setpoints = alarms::setpoints(alarms);
     Values {

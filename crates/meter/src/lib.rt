@@ -44,7 +44,7 @@ fn fresh(scale: Segments, config: Config) -> Meter
     ensures { λ r. ⌜ r ≡ powered scale config ⌝ }
 {
     let setpoints = config.setpoints;
-    let instrument = instrument::powered_up(setpoints);
+    let instrument = operating::powered_up(setpoints);
     let receiver = receiver::power_up();
     let working = config.working;
     let talking = config.talking;
@@ -112,7 +112,7 @@ impl Meter {
             let scale = self.config.scale;
             let reading = scaling::read(scale, input);
             let working = self.config.working;
-            self.instrument = instrument::sampled(working, self.instrument, reading);
+            self.instrument = operating::sampled(working, self.instrument, reading);
             answer = Answer::Done;
         }
         Outcome {

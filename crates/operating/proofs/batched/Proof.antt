@@ -1,7 +1,7 @@
--- `instrument::batched` meets its contract: the measured part is what the callee ensures, all else stands. Assumes nothing.
+-- `operating::batched` meets its contract: the measured part is what the callee ensures, all else stands. Assumes nothing.
 use borrow.Author.Needs.{needs}
-use Rattle.instrument.proofs.batched.Statement.{statement}
-use Rattle.instrument.proofs.batched.Tie as tie
+use Rattle.operating.proofs.batched.Statement.{statement}
+use Rattle.operating.proofs.batched.Tie as tie
 
 batched-requires : tie.Need-batched-requires
 batched-requires c κs = search needs

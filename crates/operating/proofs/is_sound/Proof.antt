@@ -1,8 +1,8 @@
--- `instrument::is_sound` meets its contract: what the tests of the three parts ensure, put together. Assumes nothing.
+-- `operating::is_sound` meets its contract: what the tests of the three parts ensure, put together. Assumes nothing.
 use borrow.Author.Needs.{needs}
 use Rattle.instrument.specs.Instrument.{sound}
-use Rattle.instrument.proofs.is_sound.Statement.{statement}
-use Rattle.instrument.proofs.is_sound.Tie as tie
+use Rattle.operating.proofs.is_sound.Statement.{statement}
+use Rattle.operating.proofs.is_sound.Tie as tie
 
 is-sound-requires : tie.Need-is-sound-requires
 is-sound-requires c κs = search needs

@@ -1,7 +1,7 @@
--- `instrument::sampled` meets its contract: what the calls ensure, put together in the order of the work. Assumes nothing.
+-- `operating::sampled` meets its contract: what the calls ensure, put together in the order of the work. Assumes nothing.
 use borrow.Author.Needs.{needs}
-use Rattle.instrument.proofs.sampled.Statement.{statement}
-use Rattle.instrument.proofs.sampled.Tie as tie
+use Rattle.operating.proofs.sampled.Statement.{statement}
+use Rattle.operating.proofs.sampled.Tie as tie
 
 sampled-requires : tie.Need-sampled-requires
 sampled-requires c κs = search needs

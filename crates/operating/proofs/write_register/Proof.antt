@@ -1,10 +1,10 @@
--- `instrument::write_register` meets its contract: the register picks the callee. Assumes nothing.
+-- `operating::write_register` meets its contract: the register picks the callee. Assumes nothing.
 use borrow.Author.Needs.{needs}
 use borrow.Author.Tests.{eq-eqb, ne-eqb}
 use mir.Facts.{toZ-ofZ}
 use Rattle.instrument.specs.Instrument.{writeRegister}
-use Rattle.instrument.proofs.write_register.Statement.{statement}
-use Rattle.instrument.proofs.write_register.Tie as tie
+use Rattle.operating.proofs.write_register.Statement.{statement}
+use Rattle.operating.proofs.write_register.Tie as tie
 
 write-code-requires : tie.Need-write-code-requires
 write-code-requires c κs = search needs

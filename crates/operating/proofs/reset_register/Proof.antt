@@ -1,9 +1,9 @@
--- `instrument::reset_register` meets its contract: the register picks the callee. Assumes nothing.
+-- `operating::reset_register` meets its contract: the register picks the callee. Assumes nothing.
 use borrow.Author.Needs.{needs}
 use borrow.Author.Tests.{ne-eqb}
 use Rattle.instrument.specs.Instrument.{resetRegister}
-use Rattle.instrument.proofs.reset_register.Statement.{statement}
-use Rattle.instrument.proofs.reset_register.Tie as tie
+use Rattle.operating.proofs.reset_register.Statement.{statement}
+use Rattle.operating.proofs.reset_register.Tie as tie
 
 reset-total-requires : tie.Need-reset-total-requires
 reset-total-requires c κs = search needs

@@ -1,7 +1,7 @@
--- `instrument::is_shut` meets its contract: the register and the mode. Assumes nothing.
+-- `operating::is_shut` meets its contract: the register and the mode. Assumes nothing.
 use borrow.Author.Needs.{needs}
-use Rattle.instrument.proofs.is_shut.Statement.{statement}
-use Rattle.instrument.proofs.is_shut.Tie as tie
+use Rattle.operating.proofs.is_shut.Statement.{statement}
+use Rattle.operating.proofs.is_shut.Tie as tie
 
 is-automatic-requires : tie.Need-is-automatic-requires
 is-automatic-requires c κs = search needs

@@ -1,10 +1,10 @@
--- `instrument::write_status` meets its contract: bit 4 picks the mode; alarms and outputs are what the callees ensure. Assumes nothing.
+-- `operating::write_status` meets its contract: bit 4 picks the mode; alarms and outputs are what the callees ensure. Assumes nothing.
 use borrow.Author.Needs.{needs}
 use mathlib.Core.Path.{_≡_, sym, _∙_}
 use Rattle.alarms.specs.Alarms.{bit}
 use Rattle.instrument.specs.Instrument.{writeStatus}
-use Rattle.instrument.proofs.write_status.Statement.{statement}
-use Rattle.instrument.proofs.write_status.Tie as tie
+use Rattle.operating.proofs.write_status.Statement.{statement}
+use Rattle.operating.proofs.write_status.Tie as tie
 
 bit-requires : tie.Need-bit-requires
 bit-requires c κs = search needs

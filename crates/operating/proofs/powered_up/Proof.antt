@@ -1,7 +1,7 @@
--- `instrument::powered_up` meets its contract: what the calls ensure, put together. Assumes nothing.
+-- `operating::powered_up` meets its contract: what the calls ensure, put together. Assumes nothing.
 use borrow.Author.Needs.{needs}
-use Rattle.instrument.proofs.powered_up.Statement.{statement}
-use Rattle.instrument.proofs.powered_up.Tie as tie
+use Rattle.operating.proofs.powered_up.Statement.{statement}
+use Rattle.operating.proofs.powered_up.Tie as tie
 
 powered-up-requires : tie.Need-powered-up-requires
 powered-up-requires c κs = search needs

@@ -1,4 +1,4 @@
--- `instrument::places_at` meets its contract: the places are 0 to 4, and the register picks them. Assumes nothing.
+-- `operating::places_at` meets its contract: the places are 0 to 4, and the register picks them. Assumes nothing.
 use borrow.Author.Needs.{needs}
 use borrow.Author.Tests.{ne-eqb}
 use native.Mathlib.Omega.{arith}
@@ -11,9 +11,9 @@ use mir.Syntax.{w32, w64}
 use mir.Val.{Fits, toZ, ofZ}
 use Rattle.exact.specs.Sign.{within}
 use Rattle.exact.proofs.Z.{both, from-to, nonNeg-is}
 use Rattle.instrument.specs.Shown.{placesAt}
-use Rattle.instrument.proofs.places_at.Statement.{statement}
-use Rattle.instrument.proofs.places_at.Tie as tie
+use Rattle.operating.proofs.places_at.Statement.{statement}
+use Rattle.operating.proofs.places_at.Tie as tie
 
 -- the bits of the places are their numbers
 total-back : (s : tie.Start) → toZ w32 (ofZ w32 (s .args .places .total)) ≡ s .args .places .total

@@ -1,7 +1,7 @@
--- `instrument::with_reset` meets its contract: the outputs are what the callee ensures for the alarms that are on. Assumes nothing.
+-- `operating::with_reset` meets its contract: the outputs are what the callee ensures for the alarms that are on. Assumes nothing.
 use borrow.Author.Needs.{needs}
-use Rattle.instrument.proofs.with_reset.Statement.{statement}
-use Rattle.instrument.proofs.with_reset.Tie as tie
+use Rattle.operating.proofs.with_reset.Statement.{statement}
+use Rattle.operating.proofs.with_reset.Tie as tie
 
 on-bits-requires : tie.Need-on-bits-requires
 on-bits-requires c κs = search needs

@@ -1,4 +1,4 @@
--- `instrument::shown_at` meets its contract: the register picks what is shown, which is what the callee ensures or a number read back from its bits. Assumes nothing.
+-- `operating::shown_at` meets its contract: the register picks what is shown, which is what the callee ensures or a number read back from its bits. Assumes nothing.
 use borrow.Author.Needs.{needs}
 use borrow.Author.Tests.{ne-eqb}
 use native.Mathlib.Omega.{arith}
@@ -9,9 +9,9 @@ use mir.Syntax.{w32, w64}
 use mir.Val.{Fits}
 use Rattle.exact.proofs.Z.{back32}
 use Rattle.reading.specs.declared.Reading.the-variants.{Number}
 use Rattle.instrument.specs.Shown.{shownAt}
-use Rattle.instrument.proofs.shown_at.Statement.{statement}
-use Rattle.instrument.proofs.shown_at.Tie as tie
+use Rattle.operating.proofs.shown_at.Statement.{statement}
+use Rattle.operating.proofs.shown_at.Tie as tie
 
 shown-requires : tie.Need-shown-requires
 shown-requires c κs = search needs

@@ -1,8 +1,8 @@
--- `instrument::reset_alarms` meets its contract: what the callees ensure, one on the other. Assumes nothing.
+-- `operating::reset_alarms` meets its contract: what the callees ensure, one on the other. Assumes nothing.
 use borrow.Author.Needs.{needs}
 use mathlib.Core.Path.{_∙_}
-use Rattle.instrument.proofs.reset_alarms.Statement.{statement}
-use Rattle.instrument.proofs.reset_alarms.Tie as tie
+use Rattle.operating.proofs.reset_alarms.Statement.{statement}
+use Rattle.operating.proofs.reset_alarms.Tie as tie
 
 all-reset-requires : tie.Need-all-reset-requires
 all-reset-requires c κs = search needs
