@@ -1,8 +1,7 @@
 -- What stands at each place after inputs were read in, and that the numbers tell what was read. Assumes nothing.
 use mathlib.Core.Path.{_≡_, refl, sym, ap, _∙_}
-use mathlib.Core.Bool.{Bool, true, false, cond}
+use mathlib.Core.Bool.{Bool, true, false}
 use mathlib.Core.List.{List, [], _∷_}
-use mathlib.Core.Logic.{_≢_}
 use Prim.Native.Nat.{ℕ, zero, suc, _≤_, _<_}
 use native.Mathlib.Omega.{arith}
 use lib.IntN.{ℤ, pos, natAbs}
@@ -20,7 +19,7 @@ use Rattle.config.proofs.Acceptance.{scale-accepted}
 use Rattle.segments.specs.Segments.{segmentsOf, readOn, read, canScale}
 use Rattle.segments.specs.declared.Segments.{Segments}
 use Rattle.segments.proofs.ByPoints.{read-displayable, reads, passes}
-use Rattle.bulk.specs.Bulk.{numberOf, readInto, left, at, Rescales, ByPoints, Told}
+use Rattle.bulk.specs.Bulk.{numberOf, readInto, at, Rescales, ByPoints, Told}
 use Rattle.bulk.proofs.Reading.{read-length}
 
 -- ---- place by place

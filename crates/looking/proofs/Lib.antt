@@ -16,3 +16,4 @@ pub mod Status
 pub mod Polls
 pub mod OffDelay
 pub mod Demand
+pub mod Sampled

@@ -9,3 +9,4 @@ pub mod Captured
 pub mod Status
 pub mod Polls
 pub mod Demand
+pub mod Sampled

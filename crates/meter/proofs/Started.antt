@@ -1,6 +1,6 @@
 -- A meter that passes the test at the door has what the inner functions lean on. Assumes nothing.
 use mathlib.Core.Path.{_≡_}
-use mathlib.Core.Bool.{true, _&&_}
+use mathlib.Core.Bool.{true}
 use Rattle.exact.proofs.Z.{both}
 use Rattle.segments.specs.Segments.{canScale}
 use Rattle.segments.proofs.Scale.{scale-tested, scale-steps}

@@ -1,5 +1,5 @@
 -- By its segments an accepted scale reads as it does by its points. Assumes nothing.
-use mathlib.Core.Path.{_≡_, refl, sym, ap, ap₂, _∙_}
+use mathlib.Core.Path.{_≡_, refl, sym, ap₂, _∙_}
 use mathlib.Core.Bool.{Bool, true, false, cond, _&&_}
 use mathlib.Core.List.{List}
 use Prim.Native.Nat.{ℕ, zero, suc, _+_, _-_, _≤_, _<_}
@@ -10,16 +10,15 @@ use lib.IntN.{ℤ, pos, negsuc, natAbs, _+ℤ_, _-ℤ_, +ℤ-comm, -ℤ-+ℤ-can
 use lib.Signed.{leZ, ltZ}
 use Rattle.exact.specs.Sign.{minus, isNeg, within}
 use Rattle.exact.proofs.Z.{never, either, abs-sub-le, lt-diff}
-use Rattle.reading.specs.Reading.{inInput, inDisplay, point, upTo, firstFrom, segment, onLine, onSegment, displayed, readingOf, displayable, Scalable}
+use Rattle.reading.specs.Reading.{point, firstFrom, segment, onLine, onSegment, displayed, readingOf, displayable, Scalable}
 use Rattle.reading.specs.declared.Reading.{Reading}
-use Rattle.reading.specs.declared.Reading.the-variants.{Under, Over}
 use Rattle.reading.proofs.Laws.{judged-displayable}
 use Rattle.reading.proofs.Search.{segment-le}
 use Rattle.reading.proofs.Scale.{input-small, display-small}
 use Rattle.reading.proofs.Walk.{walk-all}
 use Rattle.config.specs.Bench.{nothing}
 use Rattle.config.specs.declared.Scale.{Scale}
-use Rattle.segments.specs.Segments.{places, used, startOf, differenceOf, listed, orFixed, held, noSegments, segmentsOf, along, alongAt, readOn, read, segmentIn, segmentAt, segmentsIn, tested, canScale}
+use Rattle.segments.specs.Segments.{places, used, startOf, differenceOf, listed, orFixed, held, noSegments, segmentsOf, along, alongAt, readOn, read, segmentIn, segmentAt, tested, canScale}
 use Rattle.segments.specs.Meaning.{Leads, Unused, Alike, Segmented}
 use Rattle.segments.specs.declared.Segments.{Segments}
 use Rattle.segments.proofs.Listed.{held-at, held-unused, listed-alike}

@@ -1,17 +1,14 @@
 -- Each step of a line's fraction fits 64 bits: its start may be any number of 32 bits, since rise, run and input are small. Assumes nothing.
-use mathlib.Core.Path.{_≡_}
-use mathlib.Core.Bool.{true}
 use Prim.Native.Nat.{_+_, _*_, _^_, _≤_}
 use native.Mathlib.Omega.{arith}
 use lib.Dec.{lit<}
-use lib.IntN.{ℤ, pos, natAbs, _+ℤ_, _-ℤ_, _*ℤ_}
+use lib.IntN.{ℤ, natAbs, _+ℤ_, _-ℤ_, _*ℤ_}
 use mir.Syntax.{w32, w64}
 use mir.Val.{SFits}
-use Rattle.exact.specs.Sign.{minus, within}
 use Rattle.exact.specs.Exact.{Fraction}
 use Rattle.exact.proofs.Z.{abs-fits, fits-abs, abs-sub-le, abs-add-le, abs-mul-le, between-is, from-to, both}
 use Rattle.exact.proofs.Meaning.{nearest-le}
-use Rattle.segments.specs.Segments.{along, segmentIn, Line}
+use Rattle.segments.specs.Segments.{along, Line}
 
 pub record Fit (x0 y0 rise run x : ℤ) : Type 0 where
   pub along : SFits w64 (x -ℤ x0)

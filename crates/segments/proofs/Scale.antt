@@ -13,7 +13,6 @@ use mir.Val.{SFits}
 use Rattle.exact.specs.Sign.{within}
 use Rattle.exact.specs.Exact.{Fraction}
 use Rattle.exact.proofs.Z.{both, from-to, le-before}
-use Rattle.reading.specs.Reading.{point}
 use Rattle.reading.proofs.Walk.{walk-at}
 use Rattle.segments.specs.Segments.{places, along, segmentAt, segmentsIn, tested, canScale, Readable, Line}
 use Rattle.segments.specs.declared.Segments.{Segments}

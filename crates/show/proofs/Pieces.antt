@@ -13,7 +13,6 @@ use lib.Signed.{ltZ}
 use borrow.Author.Tests.{ne-eqb}
 use Rattle.io.specs.Digits.{glyph}
 use Rattle.exact.specs.Exact.{cut}
-use Rattle.exact.specs.Sign.{isNeg}
 use Rattle.exact.proofs.Z.{abs-mul}
 use Rattle.answer.specs.declared.Answer.{Answer}
 use Rattle.meter.specs.declared.Meter.{Meter}
@@ -22,7 +21,6 @@ use Rattle.receiver.specs.declared.Receiver.{Receiver}
 use Rattle.register.specs.Bytes.{ascii}
 use Rattle.total.specs.Total.{unitOf, quotient}
 use Rattle.total.specs.declared.Totalizer.{Totalizer}
-use Rattle.text.specs.Numeral.{numeral}
 use Rattle.text.specs.Output.{Waiting, putIn, puts}
 use Rattle.show.specs.Show.{hexByte, hex, quotientOf, kept, unwritten, trimmed, bufferWords, receivedWords, meterWords, isNotStarted, answerHead, eventLine}
 

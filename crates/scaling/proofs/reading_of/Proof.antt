@@ -1,7 +1,7 @@
 -- `scaling::reading_of` meets its contract: each test picks its case, and the segment's four numbers are the definition's. Assumes nothing.
 use borrow.Author.Needs.{needs}
 use native.Mathlib.Omega.{arith}
-use mathlib.Core.Path.{_≡_, ap, _∙_}
+use mathlib.Core.Path.{_≡_, _∙_}
 use mathlib.Core.Bool.{true, false}
 use Prim.Native.Nat.{_<_}
 use lib.IntN.{pos}

@@ -6,7 +6,7 @@ use Prim.Native.Nat.{_≤_, _-_}
 use Rattle.exact.proofs.Z.{back32}
 use Rattle.reading.specs.Reading.{point, upTo}
 use Rattle.reading.proofs.Walk.{walk-next}
-use Rattle.segments.specs.Segments.{segmentIn, segmentAt}
+use Rattle.segments.specs.Segments.{segmentAt}
 use Rattle.scaling.proofs.segments_in.Statement.{statement}
 use Rattle.scaling.proofs.segments_in.Tie as tie
 
