@@ -1,2 +1,5 @@
 pub mod Laws
 pub mod Cases
+pub mod Said
+pub mod Unique
+pub mod Excursions
