@@ -1,0 +1,4 @@
+pub mod Events
+pub mod Told
+pub mod Again
+pub mod Extracts
