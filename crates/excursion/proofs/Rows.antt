@@ -53,7 +53,7 @@ unlooked k =
 -- ── samples, computed ──
 
 -- every definition that a sample of one alarm is computed by
-opened : Unit {0}
+unfoldable pub opened : Unit {0}
 unfolding readings.readingOf readings.displayed readings.judged readings.onLine readings.segment readings.firstFrom halfUp nearest toStep samples counted one-alarm.sampled one-alarm.moved one-alarm.awaited one-alarm.delay one-alarm.onCondition one-alarm.offCondition one-alarm.above one-alarm.atMost
 opened = tt
 

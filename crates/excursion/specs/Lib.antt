@@ -1,3 +1,4 @@
 pub mod Old
 pub mod Row
 pub mod Rows
+pub mod Broken
