@@ -1,7 +1,8 @@
 //! A model of the panel meter, written from document 01 and from two tickets of
 //! document 02: ticket 2 changes what max and min take, ticket 5 what a number
 //! past a limit sets. Ticket 10 changes no reading, and has only its program
-//! `rescale` here.
+//! `rescale` here. Ticket 9 changes nothing either, and has its sentences in
+//! `sentences`, which judge a meter by its history.
 //!
 //! Every module carries out one section of document 01 in the plainest way:
 //! wide whole numbers, exact fractions and comparisons, and nothing kept that
@@ -29,3 +30,4 @@ pub mod rescale;
 pub mod total;
 
 pub mod differ;
+pub mod sentences;

@@ -1,8 +1,9 @@
 //! Holds another program against the model on random histories.
 
-use meter_model::differ::compare::{compare, events_in, Compared, Parting};
+use meter_model::differ::compare::{
+    compare, events_in, shorten_difference, Compared, Difference, Parting,
+};
 use meter_model::differ::histories::{history, Wanted};
-use meter_model::differ::shorten::{shorten, Shortened};
 use std::io::{self, Write};
 use std::process::ExitCode;
 use std::time::Instant;
@@ -22,9 +23,6 @@ every line. With --print it writes the histories instead.
 
 Ends with 0 where no line differs, with 1 where one does, and with 2 where it
 could not run.";
-
-/// More equal lines than this are shown as one line and their number.
-const MOST_SHOWN: usize = 40;
 
 /// What was asked for.
 struct Asked {
@@ -113,54 +111,22 @@ fn show_difference(asked: &Asked, parting: Parting) -> io::Result<()> {
         "DIFFERENCE after {} events, in history {}",
         parting.events, parting.history
     );
-    match shorten(asked.wanted, parting.history, &asked.command)? {
+    match shorten_difference(asked.wanted, parting.history, &asked.command)? {
         None => println!("it does not come again when the histories are fed anew"),
         Some(shortened) => {
-            show_shortened(&shortened);
-            save(asked, &shortened)?;
+            print!("{shortened}");
+            show_lines(&shortened.found);
+            if let Some(file) = &asked.save {
+                shortened.save(file)?;
+            }
         }
     }
     Ok(())
 }
 
-/// Writes the shortened history, every line of it, to the named file.
-fn save(asked: &Asked, shortened: &Shortened) -> io::Result<()> {
-    let Some(file) = &asked.save else {
-        return Ok(());
-    };
-    let mut text = shortened.lines.join(&b'\n');
-    text.push(b'\n');
-    std::fs::write(file, text)
-}
-
-fn show_shortened(shortened: &Shortened) {
-    println!(
-        "shortened to {} lines in {} runs; no single line can be left out:",
-        shortened.lines.len(),
-        shortened.runs
-    );
-    for (line, times) in counted(&shortened.lines) {
-        let line = String::from_utf8_lossy(line);
-        if times > MOST_SHOWN {
-            println!("{line}   ({times} such lines)");
-        } else {
-            (0..times).for_each(|_| println!("{line}"));
-        }
-    }
-    let difference = &shortened.difference;
+/// Both sides' line.
+fn show_lines(difference: &Difference) {
     println!("first differing line of output: {}", difference.line + 1);
     println!("model: {}", String::from_utf8_lossy(&difference.model));
     println!("other: {}", String::from_utf8_lossy(&difference.other));
-}
-
-/// Equal lines that follow each other, with how many they are.
-fn counted(lines: &[Vec<u8>]) -> Vec<(&[u8], usize)> {
-    let mut counted: Vec<(&[u8], usize)> = Vec::new();
-    for line in lines {
-        match counted.last_mut() {
-            Some((last, times)) if *last == line.as_slice() => *times += 1,
-            _ => counted.push((line, 1)),
-        }
-    }
-    counted
 }

@@ -2,6 +2,7 @@
 
 use super::histories::{history, Wanted};
 use super::other;
+use super::shorten::{shorten, Finding, Shortened};
 use super::tally::Tally;
 use crate::lines::{lines_of, read_line, Line, Replay};
 use std::io::{self, Read, Write};
@@ -19,6 +20,19 @@ pub struct Parting {
     pub history: u64,
     /// The events that were compared, up to and with the differing line.
     pub events: u64,
+}
+
+/// How much more output than the model's is read: enough for any line that a
+/// difference can be seen in, and an end to a program that never stops.
+const ROOM_FOR_MORE: usize = 4096;
+
+/// A difference on a history that was run on its own.
+#[derive(Clone, PartialEq, Eq, Debug)]
+pub struct Difference {
+    /// The line, counted from 0, in which the outputs first differ.
+    pub line: usize,
+    pub model: Vec<u8>,
+    pub other: Vec<u8>,
 }
 
 /// What a comparison came to.
@@ -139,7 +153,7 @@ fn read_up_to(output: &mut ChildStdout, length: usize) -> io::Result<Vec<u8>> {
 }
 
 /// The line, counted from 0, in which two outputs first differ.
-pub fn first_differing_line(expected: &[u8], heard: &[u8]) -> usize {
+fn first_differing_line(expected: &[u8], heard: &[u8]) -> usize {
     let same = expected
         .iter()
         .zip(heard)
@@ -173,4 +187,48 @@ fn parted(chunk: &Chunk, line: usize, mut model: Replay, mut tally: Tally) -> Co
         tally,
         parting: Some(parting),
     }
+}
+
+/// Shortens the history in which the two sides part. None where they do not part
+/// again.
+pub fn shorten_difference(
+    wanted: Wanted,
+    met_in: u64,
+    command: &[String],
+) -> io::Result<Option<Shortened<Difference>>> {
+    shorten(
+        |number| history(wanted, number),
+        met_in,
+        |text| difference_on(command, text),
+    )
+}
+
+impl Finding for Difference {
+    fn line(&self) -> usize {
+        self.line
+    }
+}
+
+/// Runs both sides on a history of its own.
+fn difference_on(command: &[String], text: &[u8]) -> io::Result<Option<Difference>> {
+    let mut expected = Vec::new();
+    Replay::new().text(text, &mut expected);
+    let heard = other::run_once(command, text, expected.len() + ROOM_FOR_MORE)?;
+    if heard == expected {
+        return Ok(None);
+    }
+    let line = first_differing_line(&expected, &heard);
+    Ok(Some(Difference {
+        line,
+        model: nth_line(&expected, line),
+        other: nth_line(&heard, line),
+    }))
+}
+
+/// A line of an output, empty where the output ends before.
+fn nth_line(output: &[u8], number: usize) -> Vec<u8> {
+    lines_of(output)
+        .nth(number)
+        .map(<[u8]>::to_vec)
+        .unwrap_or_default()
 }

@@ -1,31 +1,58 @@
 //! Shortening a history to one from which no single line can be removed
-//! without the difference vanishing.
+//! without what was found in it vanishing.
 
-use super::compare::first_differing_line;
-use super::histories::{history, Wanted};
-use super::other::run_once;
-use crate::lines::{lines_of, Replay};
+use crate::lines::lines_of;
+use std::fmt;
 use std::io;
 
-/// How much more output than the model's is read: enough for any line that a
-/// difference can be seen in, and an end to a program that never stops.
-const ROOM_FOR_MORE: usize = 4096;
+/// More equal lines than this are shown as one line and their number.
+const MOST_SHOWN: usize = 40;
 
-/// A difference on a history that was run on its own.
-#[derive(Clone, PartialEq, Eq, Debug)]
-pub struct Difference {
-    /// The line, counted from 0, in which the outputs first differ.
-    pub line: usize,
-    pub model: Vec<u8>,
-    pub other: Vec<u8>,
+/// What is wrong with a history that was run on its own.
+pub trait Finding {
+    /// The line, counted from 0, at which it shows.
+    fn line(&self) -> usize;
 }
 
-/// A shortened history with its difference.
-pub struct Shortened {
+/// A shortened history with what is wrong with it.
+pub struct Shortened<Found> {
     pub lines: Vec<Vec<u8>>,
-    pub difference: Difference,
+    pub found: Found,
     /// How often the other program was run to find it.
     pub runs: usize,
+}
+
+impl<Found> Shortened<Found> {
+    /// Writes every line to the named file, ready to be fed again.
+    pub fn save(&self, file: &str) -> io::Result<()> {
+        std::fs::write(file, self.text())
+    }
+
+    fn text(&self) -> Vec<u8> {
+        let mut text = self.lines.join(&b'\n');
+        text.push(b'\n');
+        text
+    }
+}
+
+impl<Found> fmt::Display for Shortened<Found> {
+    fn fmt(&self, out: &mut fmt::Formatter) -> fmt::Result {
+        writeln!(
+            out,
+            "shortened to {} lines in {} runs; no single line can be left out:",
+            self.lines.len(),
+            self.runs
+        )?;
+        for Group { line, times } in groups_of(&self.text()) {
+            let line = String::from_utf8_lossy(&line);
+            if times > MOST_SHOWN {
+                writeln!(out, "{line}   ({times} such lines)")?;
+            } else {
+                (0..times).try_for_each(|_| writeln!(out, "{line}"))?;
+            }
+        }
+        Ok(())
+    }
 }
 
 /// So many times over the same line. Removing any one of them gives the same
@@ -37,42 +64,40 @@ struct Group {
 }
 
 /// The trials of one shortening.
-struct Trials<'a> {
-    command: &'a [String],
+struct Trials<Run> {
+    run: Run,
     runs: usize,
 }
 
-/// How many histories around the one with the difference are tried at most, on
+/// How many histories around the one with the finding are tried at most, on
 /// either side.
 const WIDEST: u64 = 4096;
 
-/// Finds a text that shows the difference when run on its own, and shortens it.
-/// None where the difference does not come again.
+/// Finds a text that shows something when run on its own, and shortens it. None
+/// where nothing comes again.
 ///
 /// The history in which it was met is tried alone, and then with ever more of
 /// its neighbours: those before it, for what an earlier one may have left
 /// behind; those after it, since a program that dies takes with it the output
 /// it had not yet written, which belongs to earlier lines.
-pub fn shorten(wanted: Wanted, met_in: u64, command: &[String]) -> io::Result<Option<Shortened>> {
-    let mut trials = Trials { command, runs: 0 };
+pub fn shorten<Found: Finding>(
+    history: impl Fn(u64) -> Vec<u8>,
+    met_in: u64,
+    run: impl FnMut(&[u8]) -> io::Result<Option<Found>>,
+) -> io::Result<Option<Shortened<Found>>> {
+    let mut trials = Trials { run, runs: 0 };
     let mut around = 0;
     while around <= WIDEST {
         let first = met_in.saturating_sub(around);
-        let groups = groups_of(&texts(wanted, first, met_in + around));
-        if let Some(difference) = trials.difference(&groups)? {
-            let groups = trials.cut_behind(groups, &difference)?;
+        let text: Vec<u8> = (first..=met_in + around).flat_map(&history).collect();
+        let groups = groups_of(&text);
+        if let Some(found) = trials.found(&groups)? {
+            let groups = trials.cut_behind(groups, &found)?;
             return trials.shortest(groups).map(Some);
         }
         around = 2 * around + 1;
     }
     Ok(None)
-}
-
-/// The texts of several histories, one behind the other.
-fn texts(wanted: Wanted, first: u64, last: u64) -> Vec<u8> {
-    (first..=last)
-        .flat_map(|number| history(wanted, number))
-        .collect()
 }
 
 /// Gathers equal lines that follow each other.
@@ -124,43 +149,31 @@ fn text_of(groups: &[Group]) -> Vec<u8> {
     text
 }
 
-impl Trials<'_> {
-    /// Runs both sides on a history of its own.
-    fn difference(&mut self, groups: &[Group]) -> io::Result<Option<Difference>> {
+impl<Found, Run> Trials<Run>
+where
+    Found: Finding,
+    Run: FnMut(&[u8]) -> io::Result<Option<Found>>,
+{
+    /// Runs a history of its own.
+    fn found(&mut self, groups: &[Group]) -> io::Result<Option<Found>> {
         self.runs += 1;
-        let text = text_of(groups);
-        let mut expected = Vec::new();
-        Replay::new().text(&text, &mut expected);
-        let heard = run_once(self.command, &text, expected.len() + ROOM_FOR_MORE)?;
-        if heard == expected {
-            return Ok(None);
-        }
-        let line = first_differing_line(&expected, &heard);
-        Ok(Some(Difference {
-            line,
-            model: nth_line(&expected, line),
-            other: nth_line(&heard, line),
-        }))
+        (self.run)(&text_of(groups))
     }
 
-    /// Nothing behind the first differing line is needed, unless that line was
+    /// Nothing behind the line where it shows is needed, unless that line was
     /// lost by a program that died of a later one.
-    fn cut_behind(
-        &mut self,
-        groups: Vec<Group>,
-        difference: &Difference,
-    ) -> io::Result<Vec<Group>> {
+    fn cut_behind(&mut self, groups: Vec<Group>, found: &Found) -> io::Result<Vec<Group>> {
         let mut left = Vec::new();
-        for line in lines_in(&groups).into_iter().take(difference.line + 1) {
+        for line in lines_in(&groups).into_iter().take(found.line() + 1) {
             push(&mut left, line, 1);
         }
-        let still_shown = self.difference(&left)?.is_some();
+        let still_shown = self.found(&left)?.is_some();
         Ok(if still_shown { left } else { groups })
     }
 
     /// Removes ever smaller blocks until a whole round of single lines removes
     /// nothing.
-    fn shortest(&mut self, mut groups: Vec<Group>) -> io::Result<Shortened> {
+    fn shortest(&mut self, mut groups: Vec<Group>) -> io::Result<Shortened<Found>> {
         let mut size = groups.len().div_ceil(2);
         loop {
             let before = groups.clone();
@@ -172,12 +185,12 @@ impl Trials<'_> {
                 break;
             }
         }
-        let difference = self
-            .difference(&groups)?
-            .expect("only histories that show a difference are kept");
+        let found = self
+            .found(&groups)?
+            .expect("only histories that show something are kept");
         Ok(Shortened {
             lines: lines_in(&groups),
-            difference,
+            found,
             runs: self.runs,
         })
     }
@@ -188,7 +201,7 @@ impl Trials<'_> {
         while to > 0 {
             let from = to.saturating_sub(size);
             let trial = without(&groups, from, to);
-            if self.difference(&trial)?.is_some() {
+            if self.found(&trial)?.is_some() {
                 groups = trial;
             }
             to = from.min(groups.len());
@@ -204,7 +217,7 @@ impl Trials<'_> {
             while fewer > 0 {
                 let can_lose = groups[index].times > fewer;
                 let trial = with_fewer(&groups, index, if can_lose { fewer } else { 0 });
-                if can_lose && self.difference(&trial)?.is_some() {
+                if can_lose && self.found(&trial)?.is_some() {
                     groups = trial;
                 } else {
                     fewer /= 2;
@@ -213,12 +226,4 @@ impl Trials<'_> {
         }
         Ok(groups)
     }
-}
-
-/// A line of an output, empty where the output ends before.
-fn nth_line(output: &[u8], number: usize) -> Vec<u8> {
-    lines_of(output)
-        .nth(number)
-        .map(<[u8]>::to_vec)
-        .unwrap_or_default()
 }

@@ -24,7 +24,7 @@ pub fn own_string(script: &mut Script, body: &[u8]) {
 }
 
 /// This meter's address in one of its good forms.
-fn own_address(script: &mut Script) -> Vec<u8> {
+pub fn own_address(script: &mut Script) -> Vec<u8> {
     let node = script.settings.node.clamp(0, 99);
     let form = script.random.below(3);
     match (node, form) {
