@@ -16,7 +16,8 @@ use Rattle.text.specs.Numeral.{fewest, numeral}
 use Rattle.total.specs.Total as total
 use Rattle.meter.specs.Meter.{notStarted}
 use Rattle.signed.specs.Signed.{signed}
-use Rattle.show.specs.Show.{named, counted, hex, powerLine, readingWord, quotientOf, totalWords, trimmed, bufferWords, streakWords, extremeWords, measuredWords, setpointWords, stateWords, runWords, alarmWords, modeWords, outputWords, receivedWords, meterWords, eventLine}
+use Rattle.hex.specs.Hex.{hex}
+use Rattle.show.specs.Show.{named, counted, powerLine, readingWord, quotientOf, totalWords, trimmed, bufferWords, streakWords, extremeWords, measuredWords, setpointWords, stateWords, runWords, alarmWords, modeWords, outputWords, receivedWords, meterWords, eventLine}
 
 -- pieces as one text
 abbrev whole : List (List ℕ) → List ℕ
@@ -44,8 +45,6 @@ rows =
     ∷ row (extremeWords (extremes.extreme (Holds (pos 100)) (Lasts 3 (pos 105))) (extremes.extreme (Holds (minus 5)) (Lasts 12 (minus 7))))
     " MAX=100 MIN=-5 MR=3:105 NR=12:-7"
     ∷ row (extremeWords (extremes.extreme (Holds (pos 100)) Idle) (extremes.extreme (Holds (pos 0)) (Lasts 1 (minus 1)))) " MAX=100 MIN=0 MR=0 NR=1:-1"
-    ∷ row (hex []) "-"
-    ∷ row (hex (0 ∷ 171 ∷ 255 ∷ [])) "00abff"
     ∷ line (bufferWords (78 ∷ 238 ∷ 10 ∷ 238 ∷ 238 ∷ [])) " BUF=4eee0a"
     ∷ line (powerLine Done) "0 0"
     ∷ line (powerLine (Refused 5)) "11 5"

@@ -1,17 +1,17 @@
 -- What is printed of a line, piece by piece.
-use Prim.Native.Nat.{ℕ, _/_, _%_}
+use Prim.Native.Nat.{ℕ}
 use mathlib.Core.Bool.{Bool, cond}
-use mathlib.Core.List.{List, [], _∷_, _++_, map}
+use mathlib.Core.List.{List, [], _∷_, _++_}
 use lib.Dec.{eqb}
 use lib.IntN.{ℤ, pos}
 use lib.ListN.{take}
 use lib.Signed.{ltZ}
-use Rattle.io.specs.Digits.{glyph}
 use Rattle.answer.specs.Answer as answers
 use Rattle.answer.specs.declared.Answer.{Answer}
 use Rattle.register.specs.Bytes.{ascii}
 use Rattle.text.specs.Numeral.{numeral}
 use Rattle.signed.specs.Signed.{signed}
+use Rattle.hex.specs.Hex.{hex}
 use Rattle.reading.specs.declared.Reading.{Reading}
 use Rattle.reading.specs.declared.Reading.the-variants as reading
 use Rattle.extremes.specs.Extremes as extremes
@@ -41,14 +41,6 @@ named name z = name ∷ signed z
 
 unfoldable pub counted : List ℕ → ℕ → List (List ℕ)
 counted name n = name ∷ numeral n ∷ []
-
--- bytes in hexadecimal, or a dash where there are none
-abbrev pub hexByte : ℕ → List ℕ
-hexByte b = glyph (b / 16) ∷ glyph (b % 16) ∷ []
-
-unfoldable pub hex : List ℕ → List (List ℕ)
-hex [] = ascii "-" ∷ []
-hex (b ∷ s) = hexByte b ∷ map hexByte s
 
 -- ---- the answer, and the number that it carries
 

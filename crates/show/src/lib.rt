@@ -4,11 +4,12 @@ ghost use Prim.Native.Nat.{_≤_};
 ghost use mathlib.Core.List.{[], _∷_};
 ghost use lib.ListN.{length, take};
 ghost use Rattle.text.specs.Output.{waiting, puts};
-ghost use Rattle.show.specs.Show.{named, counted, hexByte, hex, answerPieces, powerLine, readingWord, quotientOf, totalWords, trimmed, bufferWords, streakWords, extremeWords, measuredWords, setpointWords, onDigit, stateWords, runWords, alarmWords, modeWords, outputWords, receivedWords, meterWords, isNotStarted, eventLine};
+ghost use Rattle.show.specs.Show.{named, counted, answerPieces, powerLine, readingWord, quotientOf, totalWords, trimmed, bufferWords, streakWords, extremeWords, measuredWords, setpointWords, onDigit, stateWords, runWords, alarmWords, modeWords, outputWords, receivedWords, meterWords, isNotStarted, eventLine};
 use alarm::Alarm;
 use answer::Answer;
 use extremes::Extreme;
 use extremes::Streak;
+use hex::put_hex;
 use measured::Measured;
 use meter::Meter;
 use outputs::Mode;
@@ -45,33 +46,6 @@ fn put_count(buf: &mut [u8], o: Out, name: &[u8], n: u32) -> Out
 {
     let p = put(&mut *buf, o, name);
     put_natural(&mut *buf, p, n as u64)
-}
-
-const HEX: [u8; 16] = *b"0123456789abcdef";
-
-fn put_hex_byte(buf: &mut [u8], o: Out, b: u8) -> Out
-    ensures { λ r. ⌜ waiting (r .at) (now (buf .exit)) ≡ puts (waiting (o .at) (now (buf .entry))) (hexByte b ∷ []) ⌝ }
-{
-    let high = (b / 16) as usize;
-    let low = (b % 16) as usize;
-    let two = [HEX[high], HEX[low]];
-    put(buf, o, &two)
-}
-
-// Bytes in hexadecimal, or a dash where there are none.
-fn put_hex(buf: &mut [u8], o: Out, s: &[u8]) -> Out
-    ensures { λ r. ⌜ waiting (r .at) (now (buf .exit)) ≡ puts (waiting (o .at) (now (buf .entry))) (hex (now (s .entry))) ⌝ }
-{
-    if s.len() == 0 {
-        return put(&mut *buf, o, b"-");
-    }
-    let mut p = o;
-    let mut i = 0;
-    while i < s.len() {
-        p = put_hex_byte(&mut *buf, p, s[i]);
-        i += 1;
-    }
-    p
 }
 
 // A name, and a word.

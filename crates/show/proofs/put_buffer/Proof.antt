@@ -3,7 +3,8 @@ use mathlib.Core.Path.{ap, _∙_}
 use mathlib.Core.List.{[], _∷_}
 use Rattle.text.proofs.Laws.{part}
 use Rattle.register.specs.Bytes.{ascii}
-use Rattle.show.specs.Show.{hex, trimmed, bufferWords}
+use Rattle.hex.specs.Hex.{hex}
+use Rattle.show.specs.Show.{trimmed, bufferWords}
 use Rattle.text.proofs.Pieces.{one, next, alike}
 use borrow.Author.Needs.{needs}
 use Rattle.show.proofs.put_buffer.Statement.{statement}

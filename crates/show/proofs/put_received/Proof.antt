@@ -6,7 +6,7 @@ use borrow.Author.Tests.{ltb-false}
 use Rattle.receiver.specs.Receiver.{limit}
 use Rattle.register.specs.Bytes.{ascii}
 use Rattle.text.proofs.Laws.{part}
-use Rattle.show.specs.Show.{hex}
+use Rattle.hex.specs.Hex.{hex}
 use Rattle.text.proofs.Pieces.{one, next, alike}
 use Rattle.show.proofs.Pieces.{received-long, received-held}
 use borrow.Author.Needs.{needs}

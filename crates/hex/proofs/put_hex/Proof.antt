@@ -1,4 +1,4 @@
--- `show::put_hex` meets its contract: each turn puts one byte more. Assumes nothing.
+-- `hex::put_hex` meets its contract: each turn puts one byte more. Assumes nothing.
 use borrow.Author.Needs.{needs}
 use native.Mathlib.Omega.{arith}
 use mathlib.Core.Path.{_≡_, refl, sym, ap, _∙_}
@@ -6,11 +6,11 @@ use mathlib.Core.List.{map}
 use Prim.Native.Nat.{_≤_, _-_}
 use lib.ListN.{length, drop}
 use Rattle.text.specs.Output.{waiting, puts}
-use Rattle.show.specs.Show.{hexByte}
+use Rattle.hex.specs.Hex.{hexByte}
 use Rattle.text.proofs.Pieces.{one, alike}
-use Rattle.show.proofs.Pieces.{hex-none, hex-some, hex-turn, hex-out}
-use Rattle.show.proofs.put_hex.Statement.{statement}
-use Rattle.show.proofs.put_hex.Tie as tie
+use Rattle.hex.proofs.Pieces.{hex-none, hex-some, hex-turn, hex-out}
+use Rattle.hex.proofs.put_hex.Statement.{statement}
+use Rattle.hex.proofs.put_hex.Tie as tie
 
 abbrev Inv-loop : tie.InvT-loop
 Inv-loop buf₀ s p₀ i₀ buf p i = (i ≤ length s) × (length buf ≡ length buf₀)

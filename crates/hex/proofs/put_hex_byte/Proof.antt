@@ -1,13 +1,13 @@
--- `show::put_hex_byte` meets its contract: the table has the sixteen digits. Assumes nothing.
+-- `hex::put_hex_byte` meets its contract: the table has the sixteen digits. Assumes nothing.
 use mathlib.Core.Path.{ap, ap₂, _∙_}
 use mathlib.Core.List.{[], _∷_}
 use Prim.Native.Nat.{ℕ, _/_, _%_}
 use Rattle.text.specs.Output.{waiting, putIn}
 use Rattle.text.proofs.Pieces.{one}
-use Rattle.show.proofs.Pieces.{hex-digit}
+use Rattle.hex.proofs.Pieces.{hex-digit}
 use borrow.Author.Needs.{needs}
-use Rattle.show.proofs.put_hex_byte.Statement.{statement}
-use Rattle.show.proofs.put_hex_byte.Tie as tie
+use Rattle.hex.proofs.put_hex_byte.Statement.{statement}
+use Rattle.hex.proofs.put_hex_byte.Tie as tie
 
 cast-high : tie.Need-cast-high
 cast-high c = search needs
