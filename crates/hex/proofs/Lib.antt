@@ -1,2 +1,4 @@
 pub mod Cases
+pub mod Digits
+pub mod Meaning
 pub mod Pieces
