@@ -24,3 +24,4 @@ pub mod status;
 pub mod strings;
 pub mod tally;
 pub mod write_tally;
+pub mod written;

@@ -7,17 +7,14 @@ use super::other::run_once;
 use super::random::Random;
 use super::scale_tally::ScaleTally;
 use super::scales::settings_in_turn;
+use super::written::{Said, Written, LONGEST_LINE};
 use crate::lines::configuration_line;
 use crate::rescale::Rescale;
-use std::fmt;
 use std::io;
 
 /// How many inputs come behind a first line that is not accepted. Nothing is
 /// read there, so that more would show no more.
 const INPUTS_BEHIND_NOTHING: usize = 30;
-
-/// Longer lines than this are no line of either command.
-const LONGEST_LINE: usize = 1_024;
 
 /// What is asked for.
 #[derive(Clone, Copy, PartialEq, Eq, Debug)]
@@ -141,54 +138,10 @@ fn compare_session(
     let replayed = run_once(&commands.replay, &session.for_replay(), most)?;
     let comparison = Comparison {
         model: Rescale::new(),
-        rescale: Written { left: &rescaled },
-        replay: Written { left: &replayed },
+        rescale: Written::new(&rescaled),
+        replay: Written::new(&replayed),
     };
     Ok(comparison.whole(session, tally))
-}
-
-/// What one side says to a line.
-#[derive(Clone, Copy, PartialEq, Eq, Debug)]
-enum Said<'a> {
-    NotAsked,
-    Nothing,
-    Line(&'a [u8]),
-}
-
-impl fmt::Display for Said<'_> {
-    fn fmt(&self, out: &mut fmt::Formatter) -> fmt::Result {
-        match self {
-            Said::NotAsked => write!(out, "(not asked)"),
-            Said::Nothing => write!(out, "(nothing)"),
-            Said::Line(line) => write!(out, "{}", line.escape_ascii()),
-        }
-    }
-}
-
-/// What a side has written and nobody has looked at yet.
-struct Written<'a> {
-    left: &'a [u8],
-}
-
-impl<'a> Written<'a> {
-    /// The next line. What lacks its LF is none.
-    fn next_line(&mut self) -> Said<'a> {
-        match self.left.iter().position(|byte| *byte == b'\n') {
-            None => Said::Nothing,
-            Some(end) => {
-                let line = &self.left[..end];
-                self.left = &self.left[end + 1..];
-                Said::Line(line)
-            }
-        }
-    }
-
-    fn rest(&self) -> Said<'a> {
-        match self.left {
-            [] => Said::Nothing,
-            left => Said::Line(&left[..left.len().min(LONGEST_LINE)]),
-        }
-    }
 }
 
 /// One session being compared, line by line.
@@ -213,7 +166,7 @@ impl Comparison<'_> {
     fn first_line(&mut self, text: &str) -> Result<(), Difference> {
         let mut expected = Vec::new();
         self.model.line(text.as_bytes(), &mut expected);
-        let model = Written { left: &expected }.next_line();
+        let model = Written::new(&expected).next_line();
         let (rescale, replay) = (self.rescale.next_line(), self.replay.next_line());
         judge(b"(the first line itself)", model, rescale, replay)
     }
@@ -221,7 +174,7 @@ impl Comparison<'_> {
     fn line(&mut self, line: &Fed) -> Result<(), Difference> {
         let mut expected = Vec::new();
         self.model.line(line.text(), &mut expected);
-        let model = Written { left: &expected }.next_line();
+        let model = Written::new(&expected).next_line();
         let rescale = match model {
             Said::Line(_) => self.rescale.next_line(),
             _ => Said::Nothing,
