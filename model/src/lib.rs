@@ -2,7 +2,8 @@
 //! document 02: ticket 2 changes what max and min take, ticket 5 what a number
 //! past a limit sets. Ticket 10 changes no reading, and has only its program
 //! `rescale` here. Ticket 9 changes nothing either, and has its sentences in
-//! `sentences`, which judge a meter by its history.
+//! `sentences`, which judge a meter by its history. Ticket 12 hands readings on,
+//! and has its record and its program `historian` here.
 //!
 //! Every module carries out one section of document 01 in the plainest way:
 //! wide whole numbers, exact fractions and comparisons, and nothing kept that
@@ -17,14 +18,17 @@ pub mod alarms;
 pub mod analog;
 pub mod answer;
 pub mod bench;
+pub mod binary32;
 pub mod command;
 pub mod config;
 pub mod extremes;
 pub mod fraction;
+pub mod historian;
 pub mod lines;
 pub mod meter;
 pub mod reading;
 pub mod receiver;
+pub mod record;
 pub mod reply;
 pub mod rescale;
 pub mod total;

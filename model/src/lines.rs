@@ -363,8 +363,9 @@ fn put_buffer(buffer: &[u8], output: &mut Vec<u8>) {
     put_hex(&buffer[..kept], output);
 }
 
-/// Two hex digits for each byte, or `-` where there is none.
-fn put_hex(bytes: &[u8], output: &mut Vec<u8>) {
+/// Two hex digits for each byte, or `-` where there is none. A record is printed
+/// so as well.
+pub fn put_hex(bytes: &[u8], output: &mut Vec<u8>) {
     const DIGITS: &[u8; 16] = b"0123456789abcdef";
     if bytes.is_empty() {
         output.push(b'-');

@@ -1,8 +1,10 @@
 //! Reads recorded histories on standard input and prints the model's line for
 //! each of their lines. With the word `bench` it is the bench program instead,
-//! with the word `rescale` the program that reads inputs and nothing else.
+//! with the word `rescale` the program that reads inputs and nothing else, with
+//! the word `historian` the one that writes records of readings and reads them.
 
 use meter_model::bench::Bench;
+use meter_model::historian::Historian;
 use meter_model::lines::Replay;
 use meter_model::rescale::Rescale;
 use std::io::{self, BufRead, Write};
@@ -29,8 +31,14 @@ fn main() -> ExitCode {
             let mut rescale = Rescale::new();
             each_line(|line, output| rescale.line(line, output))
         }
+        ["historian"] => {
+            let historian = Historian::new();
+            each_line(|line, output| {
+                historian.line(line, output);
+            })
+        }
         _ => {
-            eprintln!("usage: model [bench | rescale] < history");
+            eprintln!("usage: model [bench | rescale | historian] < history");
             return ExitCode::from(2);
         }
     };
