@@ -16,8 +16,13 @@
 # may say (document 02, ticket 9). It goes to `sentences` as well, which must find
 # it too.
 #
+# The files `binary32`, `record` and `historian` are those of readings for the
+# historian (document 02, ticket 12), which no history has. Their rows go to
+# `historied` instead.
+#
 #   ./faults.sh              every row of the table
-#   ./faults.sh NAME ..      only these, each with its shortened history
+#   ./faults.sh NAME ..      only these, each with its shortened history, or with
+#                            the line that `historied` found to differ
 #
 # SEED and EVENTS can be set in the environment.
 set -eu
@@ -239,6 +244,55 @@ held-rounded-once | held | s/let whole = .*/let whole = nearest(height, segment.
 held-part-kept-within-the-segment | held | s/let part = \(.*\);/let part = (\1).clamp(0, segment.run);/
 held-product-of-32-bits | held | s/part \* segment.rise/i128::from((&) as i32)/
 held-input-limit-on-the-part | held | s/if input \([<>]\)/if part \1/
+history-rounded-down | binary32 | s/Rounding::AwayFromZero => true/Rounding::AwayFromZero => false/
+history-rounded-up | binary32 | s/Rounding::Exact | Rounding::TowardsZero => false/Rounding::Exact => false, Rounding::TowardsZero => true/
+history-rounded-to-the-floor | binary32 | s/Rounding::Exact | Rounding::TowardsZero => false/Rounding::Exact => false, Rounding::TowardsZero => numerator < 0/; s/Rounding::AwayFromZero => true/Rounding::AwayFromZero => numerator < 0/
+history-reciprocal-multiplied | record | s/^    nearest(display, .*/    let reciprocal = nearest(1, 10_i128.pow(u32::from(places))).bits; let whole = i128::from(reciprocal % (1 << 23) + (1 << 23)); nearest(display * whole, 1 << (150 - (reciprocal >> 23)))/
+history-divided-by-ten-in-turn | record | s/^    nearest(display, .*/    let mut value = nearest(display, 1); for _ in 0..places { let size = value.bits % (1 << 31); if size > 0 { let whole = i128::from(size % (1 << 23) + (1 << 23)) * display.signum(); let power = (size >> 23) as i32 - 150; value = nearest(whole * (1 << power.max(0)), 10 * (1 << (-power).max(0))); } } value/
+history-power-of-one-place-less | record | s/pow(u32::from(places))/pow(u32::from(places.saturating_sub(1)))/
+history-bits-high-byte-first | record | s/self.bits.to_le_bytes()/self.bits.to_be_bytes()/
+history-read-high-byte-first | record | s/u32::from_le_bytes(bits)/u32::from_be_bytes(bits)/
+history-places-lost | record | s/\[kind, self.places, /[kind, 0, /
+history-places-lost-at-a-mark | record | s/^        Record { kind, places, bits }/        let places = if kind == Kind::Value { places } else { 0 }; &/
+history-over-as-under | record | s/Reading::Over => (Kind::Over, 0)/Reading::Over => (Kind::Under, 0)/
+history-none-as-over | record | s/Reading::Nothing => (Kind::Nothing, 0)/Reading::Nothing => (Kind::Over, 0)/
+history-31-before-30 | record | s/let bytes: \[u8; RECORD_LENGTH\]/if bytes.first().is_some_and(|kind| *kind > 3) { return Err(Refusal::Kind); } &/
+history-32-before-31 | record | s/let kind = Kind::numbered/if third != 0 || fourth != 0 || places > MOST_PLACES { return Err(Refusal::FillerOrPlaces); } &/
+history-33-before-32 | record | s/if third != 0/let early = u32::from_le_bytes(bits); let right = match kind { Kind::Value => places <= MOST_PLACES \&\& self.some_display_has(early, places), _ => early == 0 }; if !right { return Err(Refusal::Bits); } &/
+history-minus-zero-taken | record | s/table.binary_search(&bits).is_ok()/bits == 0x8000_0000 || &/
+history-infinity-taken | record | s/table.binary_search(&bits).is_ok()/bits == 0x7F80_0000 || &/
+history-quiet-nan-taken | record | s/table.binary_search(&bits).is_ok()/bits == 0x7FC0_0000 || &/
+history-subnormals-taken | record | s/table.binary_search(&bits).is_ok()/(1..1 << 23).contains(\&bits) || &/
+history-next-below-taken | record | s/table.binary_search(&bits).is_ok()/table.binary_search(\&bits.saturating_add(1)).is_ok() || &/
+history-sign-not-judged | record | s/table.binary_search(&bits).is_ok()/table.binary_search(\&(bits % (1 << 31))).is_ok() || &/
+history-bits-of-other-places-taken | record | s/table.binary_search(&bits).is_ok()/self.tables.iter().any(|table| &)/
+history-100000-read | record | s/\.\.=i128::from(HIGHEST_DISPLAY)/& + 1/
+history-minus-20000-read | record | s/i128::from(LOWEST_DISPLAY)\.\./i128::from(LOWEST_DISPLAY) - 1../
+history-bits-beside-marks-taken | record | s/Kind::Nothing => bits == 0,/Kind::Nothing => true,/
+history-bits-beside-none-taken | record | s/Kind::Over | Kind::Under | Kind::Nothing => bits == 0,/Kind::Nothing => true, Kind::Over | Kind::Under => bits == 0,/
+history-third-byte-not-judged | record | s/third != 0 || //
+history-fourth-byte-not-judged | record | s/fourth != 0 || //
+history-places-5-read | record | s/places > MOST_PLACES/places > 5/; s/(0..=MOST_PLACES).map/(0..=5).map/
+history-kind-4-read | record | s/3 => Some(Kind::Nothing)/3 | 4 => Some(Kind::Nothing)/
+history-7-bytes-read | record | s/let bytes: \[u8; RECORD_LENGTH\]/let mut bytes = bytes.to_vec(); if bytes.len() == 7 { bytes.push(0); } let bytes = bytes.as_slice(); &/
+history-9-bytes-read | record | s/let bytes: \[u8; RECORD_LENGTH\]/let bytes = if bytes.len() == 9 { \&bytes[..8] } else { bytes }; &/
+history-100000-written | historian | s/LOWEST_DISPLAY\.\.=HIGHEST_DISPLAY/& + 1/
+history-minus-20000-written | historian | s/LOWEST_DISPLAY\.\.=/LOWEST_DISPLAY - 1..=/
+history-minus-zero-written | historian | s/let record = \(.*\);/let mut record = \1; if record.bits == 0 \&\& reading.starts_with(b"-0") { record.bits = 1 << 31; }/
+history-places-5-written | historian | s/places <= MOST_PLACES/places <= 5/
+history-places-of-8-bits | historian | s/u8::try_from(number(word)?).ok()?/number(word)? as u8/
+history-numbers-as-the-library-has | historian | s/let display = number(word)?;/let display: i32 = std::str::from_utf8(word).ok()?.parse().ok()?;/
+history-65-bytes-taken | historian | s/word.len() > 2 \* MOST_BYTES/word.len() > 2 * MOST_BYTES + 2/
+history-64-bytes-not-taken | historian | s/word.len() > 2 \* MOST_BYTES/word.len() >= 2 * MOST_BYTES/
+history-odd-digit-left-out | historian | s/one_digit_alone || //; s/word.chunks(2)/word.chunks_exact(2)/
+history-empty-word-for-no-bytes | historian | s/word.is_empty() || //
+history-no-bytes-not-taken | historian | s/if word == b"-"/if false/
+history-upper-case-not-taken | historian | /b'A'\.\.=b'F'/d
+history-end-of-line-trimmed | historian | s/text.split(/text.trim_ascii_end().split(/
+history-two-spaces-for-one | historian | s/== b' ')\.collect()/== b' ').filter(|word| !word.is_empty()).collect()/
+history-small-letters-taken | historian | s/\[b"W", reading, places\]/[b"W" | b"w", reading, places]/; s/\[b"R", hex\]/[b"R" | b"r", hex]/
+history-bits-shown-without-zeros | historian | s/{:08x}/{:x}/
+history-bits-shown-low-byte-first | historian | s/record.bits)/record.bits.swap_bytes())/
 TABLE
 }
 
@@ -251,6 +305,7 @@ spoil() {
     sed -i '/pub mod differ;/d; /pub mod sentences;/d' "$copy/src/lib.rs"
     sed '/name = "differ"/d; /src\/bin\/differ.rs/d
         /name = "rescaled"/d; /src\/bin\/rescaled.rs/d
+        /name = "historied"/d; /src\/bin\/historied.rs/d
         /name = "sentences"/d; /src\/bin\/sentences.rs/d' Cargo.toml |
         awk '/^\[\[bin\]\]/ { if (seen++) next } { print }' > "$copy/Cargo.toml"
     spoilt=$copy/src/$1.rs
@@ -306,6 +361,24 @@ by_sentences() {
     [ $# -eq 0 ] || sed -n '/^shortened to/,$p' target/faults.out
 }
 
+# Holds a copy's `historian` against the model by `historied`, and tells after how
+# many lines the fault, whose name is the first word, was found. It must be.
+by_historied() {
+    row_name=$1
+    shift
+    status=0
+    target/release/historied --seed "$seed" -- "$copy/target/release/model" historian \
+        > target/faults.out 2>/dev/null || status=$?
+    found=$(sed -n 's/^DIFFERENCE after \([0-9]*\) lines.*/\1/p' target/faults.out)
+    part=$(sed -n 's/^DIFFERENCE after [0-9]* lines, in //p' target/faults.out)
+    if [ "$status" -ne 1 ] || [ -z "$found" ]; then
+        printf '%-34s NOT FOUND by historied\n' "$row_name"
+        return 1
+    fi
+    printf '%-34s found after %8s lines by historied, in %s\n' "$row_name" "$found" "$part"
+    [ $# -eq 0 ] || sed -n '/^line: /,$p' target/faults.out
+}
+
 # Whether the first word is among the others, or there are no others.
 wanted() {
     sought=$1
@@ -333,6 +406,12 @@ while IFS= read -r row; do
         missed=1
         continue
     fi
+    case $file in
+    binary32 | record | historian)
+        by_historied "$name" "$@" || missed=1
+        continue
+        ;;
+    esac
     status=0
     target/release/differ --seed "$seed" --events "$events" -- \
         "$copy/target/release/model" > target/faults.out 2>/dev/null || status=$?

@@ -1,17 +1,24 @@
 //! The differential test: random histories by seed, fed to the model and to
-//! another program, and compared line by line; and its smaller sister, which
-//! feeds inputs to a program that reads them and does nothing else.
+//! another program, and compared line by line; and its smaller sisters, which
+//! feed inputs to a program that reads them and does nothing else, and readings
+//! and records to one that writes and reads them for the historian.
 
 pub mod broken;
 pub mod captures;
+pub mod certain_records;
 pub mod compare;
 pub mod floods;
+pub mod historian_lines;
 pub mod histories;
 pub mod inputs;
 pub mod limits;
+pub mod odd_lines;
 pub mod other;
 pub mod places;
 pub mod random;
+pub mod record_tally;
+pub mod recording;
+pub mod records;
 pub mod rescaling;
 pub mod run_tally;
 pub mod samples;
