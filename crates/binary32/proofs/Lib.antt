@@ -1,0 +1,9 @@
+pub mod Nearest
+pub mod Round
+pub mod Value
+pub mod Back
+pub mod Told
+pub mod Gives
+pub mod Unique
+pub mod Cases
+pub mod Judge

@@ -1,0 +1,2 @@
+pub mod Binary32
+pub mod Meaning
