@@ -1,0 +1,5 @@
+pub mod Records
+pub mod Words
+pub mod Texts
+pub mod Prints
+pub mod Cases

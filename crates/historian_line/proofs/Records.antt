@@ -1,0 +1,45 @@
+-- What the writer leaves in eight bytes: the record, where there is one. Assumes nothing.
+use mathlib.Core.Path.{_≡_, refl, sym, ap, _∙_}
+use mathlib.Core.Bool.{Bool, true, false, cond, not, _&&_}
+use mathlib.Core.List.{List, _++_}
+use Prim.Native.Nat.{ℕ}
+use lib.IntN.{ℤ}
+use lib.ListN.{replicate}
+use Rattle.reading.specs.Reading.{displayable}
+use Rattle.reading.specs.declared.Reading.{Reading}
+use Rattle.line.specs.Buffer.{over, laid, after}
+use Rattle.filed.specs.Filed.{recordOf, inPlaces, writtenOf, left}
+use Rattle.filed.specs.declared.Refusal.the-variants as refusal
+use Rattle.filed.specs.declared.Written.{Written}
+use Rattle.filed.specs.declared.Written.the-variants as written
+use Rattle.hex.specs.Hex.{hex}
+use Rattle.historian_line.specs.Line.{ended, unknown, recordLine}
+
+-- eight zeros, into which a record is written
+abbrev pub zeros : List ℕ
+zeros = replicate 8 0
+
+abbrev isBytes : Written → Bool
+isBytes (written.Bytes n) = true
+isBytes written.NoRoom = false
+isBytes (written.Refused why) = false
+
+by-tests : (p d : Bool)
+    → (p && d) ≡ isBytes (cond (not p) (written.Refused refusal.Places) (cond (not d) (written.Refused refusal.Value) (written.Bytes 8)))
+by-tests false d = refl
+by-tests true false = refl
+by-tests true true = refl
+
+-- whether there is a record is what the writer answers
+tested : (shown : Reading) (places : ℤ) (w : Written) → w ≡ writtenOf shown places zeros 0 → (inPlaces places && displayable shown) ≡ isBytes w
+unfolding writtenOf
+tested shown places w e = by-tests (inPlaces places) (displayable shown) ∙ ap isBytes (sym e)
+
+pub record-shown : (shown : Reading) (places : ℤ) (n : ℕ) → written.Bytes n ≡ writtenOf shown places zeros 0
+    → (hex (left shown places zeros 0) ++ ended) ≡ recordLine shown places
+unfolding left recordLine after laid over recordOf
+record-shown shown places n e = rw (tested shown places (written.Bytes n) e)
+
+pub nothing-shown : (shown : Reading) (places : ℤ) (w : Written) → isBytes w ≡ false → w ≡ writtenOf shown places zeros 0 → unknown ≡ recordLine shown places
+unfolding recordLine
+nothing-shown shown places w none e = rw (tested shown places w e ∙ none)
