@@ -15,9 +15,14 @@ use filed::Taken;
 use filed::Written;
 use reading::Reading;
 
+// What a pattern's sign weighs, and one of its exponent's field, behind which stand the 23 digits of the significand that are written.
+const SIGN: u32 = 0x8000_0000;
+
+const FIELD: u32 = 0x0080_0000;
+
 // ---- a display and its bits
 
-// The display divided by its power of ten, which a binary32 holds both, in a single division; with no places the display itself.
+// The display divided by its power of ten, both of which a binary32 holds exactly, in a single division; with no places the display itself.
 fn value(display: i32, places: usize) -> f32
     requires { ⌜ (inDisplay display ≡ true) × (places ≤ 4) ⌝ }
     ensures { λ r. ⌜ r ≡ value places display ⌝ }
@@ -114,10 +119,10 @@ fn display_of(bits: u32, places: usize) -> i64
     requires { ⌜ (113 ≤ field bits) × (field bits ≤ 143) × (places ≤ 4) ⌝ }
     ensures { λ r. ⌜ r ≡ displayOf places bits ⌝ }
 {
-    let significand = 8388608 + bits % 8388608;
+    let significand = FIELD + bits % FIELD;
     let times = ((significand as u64) * (exact::power_of_ten(places) as u64)) as i64;
-    let unit = (1u64 << (150 - bits % 2147483648 / 8388608)) as i64;
-    if bits < 2147483648 {
+    let unit = (1u64 << (150 - bits % SIGN / FIELD)) as i64;
+    if bits < SIGN {
         exact::nearest(times, unit)
     } else {
         exact::nearest(0 - times, unit)
@@ -147,7 +152,7 @@ fn is_given(pattern: u32, places: usize) -> bool
     if pattern == 0 {
         return true;
     }
-    let field = pattern % 2147483648 / 8388608;
+    let field = pattern % SIGN / FIELD;
     if field < 113 {
         return false;
     }
