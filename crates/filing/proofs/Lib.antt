@@ -1,3 +1,1 @@
-pub mod Values
-pub mod Shown
-pub mod Units
+pub mod Datums

@@ -18,8 +18,8 @@ use Rattle.filed.specs.declared.Datum.the-variants.{Value, Over, Under, Nothing
 use Rattle.filed.specs.declared.Refusal.the-variants as refusal
 use Rattle.filed.specs.declared.Taken.{Taken}
 use Rattle.filed.specs.declared.Taken.the-variants as taken
-use Rattle.filing.proofs.Values.{given-number}
-use Rattle.filing.proofs.Shown.{or-right}
+use Rattle.dividing.proofs.Values.{given-number}
+use Rattle.filing.proofs.Datums.{or-right}
 use Rattle.hex.specs.Hex.{isText, bytesOf, hexed, over, filled}
 use Rattle.hex.specs.declared.Hexed.the-variants.{Bytes, Not}
 use Rattle.hex.proofs.Meaning.{hexed-only}

@@ -7,7 +7,7 @@ use Prim.Native.Nat.{ℕ}
 use lib.Dec.{eqb, ltb}
 use lib.ListN.{length, getD}
 use Rattle.filed.specs.Filed.{recordAt, takenOf}
-use Rattle.filing.proofs.Shown.{or-right}
+use Rattle.filing.proofs.Datums.{or-right}
 use Rattle.filing.proofs.read.Statement.{statement}
 use Rattle.filing.proofs.read.Tie as tie
 

@@ -2,7 +2,7 @@
 use mathlib.Core.Path.{sym, _∙_}
 use borrow.Author.Needs.{needs}
 use Rattle.filed.specs.Filed.{recordAt}
-use Rattle.filing.proofs.Values.{given-number}
+use Rattle.dividing.proofs.Values.{given-number}
 use Rattle.filing.proofs.value_at.Statement.{statement}
 use Rattle.filing.proofs.value_at.Tie as tie
 

@@ -14,7 +14,7 @@ use Rattle.exact.proofs.Z.{turned-true, turned-false, from-to, nonNeg-is}
 use Rattle.reading.specs.Reading.{displayable}
 use Rattle.line.specs.Buffer.{after}
 use Rattle.filed.specs.Filed.{hasBits, recordOf, inPlaces, filed, writtenOf, left}
-use Rattle.filing.proofs.Values.{datum-number}
+use Rattle.filing.proofs.Datums.{datum-number}
 use Rattle.filing.proofs.write.Statement.{statement}
 use Rattle.filing.proofs.write.Tie as tie
 

@@ -1,10 +1,10 @@
 -- What a number is judged to read tells whether it is a display. Assumes nothing.
 use mathlib.Core.Path.{_≡_, refl, sym, ap, ap₂, _∙_}
-use mathlib.Core.Bool.{Bool, true, false, cond, _&&_, _||_}
+use mathlib.Core.Bool.{Bool, true, false, cond, _&&_}
 use lib.IntN.{ℤ, pos}
 use lib.Signed.{leZ, ltZ}
 use Rattle.exact.specs.Sign.{minus}
-use Rattle.exact.proofs.Z.{never, not-lt, lt-not-le, and-false}
+use Rattle.exact.proofs.Z.{not-lt, lt-not-le, and-false}
 use Rattle.reading.specs.Reading.{inDisplay, judged}
 use Rattle.reading.specs.declared.Reading.{Reading}
 use Rattle.reading.specs.declared.Reading.the-variants.{Nothing, Under, Number, Over}
@@ -38,8 +38,3 @@ shown-as z r e = by-tests z .0 ∙ ap isNumber e
 
 pub number-as : (z v : ℤ) → judged z ≡ Number v → v ≡ z
 number-as z v e = sym (ap (numberOr z) e) ∙ by-tests z .1
-
--- the last of tests of which none passes
-pub or-right : (s t : Bool) → (s || t) ≡ false → t ≡ false
-or-right true t e = never (sym e)
-or-right false t e = e

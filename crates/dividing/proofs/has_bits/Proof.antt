@@ -1,4 +1,4 @@
--- `filing::has_bits` meets its contract: the number is judged as any result is, and of a display the bits are compared. Assumes nothing.
+-- `dividing::has_bits` meets its contract: the number is judged as any result is, and of a display the bits are compared. Assumes nothing.
 use mathlib.Core.Path.{_≡_, sym, ap, _∙_}
 use borrow.Author.Needs.{needs}
 use mir.Syntax.{w32, w64}
@@ -7,9 +7,9 @@ use mir.ValLaws.{toZ-ofZ}
 use Rattle.exact.proofs.Z.{back32}
 use Rattle.reading.specs.Reading.{inDisplay, judged}
 use Rattle.reading.specs.declared.Reading.the-variants.{Number}
-use Rattle.filing.proofs.Shown.{shown-as, number-as}
-use Rattle.filing.proofs.has_bits.Statement.{statement}
-use Rattle.filing.proofs.has_bits.Tie as tie
+use Rattle.dividing.proofs.Shown.{shown-as, number-as}
+use Rattle.dividing.proofs.has_bits.Statement.{statement}
+use Rattle.dividing.proofs.has_bits.Tie as tie
 
 judged-requires : tie.Need-judged-requires
 judged-requires c κs = search needs

@@ -1,4 +1,4 @@
--- `filing::value` meets its contract: display and power of ten become floats without loss. Assumes nothing.
+-- `dividing::value` meets its contract: display and power of ten become floats without loss. Assumes nothing.
 use borrow.Author.Needs.{needs}
 use mathlib.Core.Path.{_≡_, sym, subst}
 use native.Mathlib.Omega.{arith}
@@ -10,9 +10,9 @@ use mir.Val.{toZ, ofZ}
 use mir.ValLaws.{toZ-ofZ}
 use Rattle.exact.proofs.Z.{between-is}
 use Rattle.binary32.proofs.Value.{power-most}
-use Rattle.filing.proofs.Values.{in-float, value-itself, value-divided}
-use Rattle.filing.proofs.value.Statement.{statement}
-use Rattle.filing.proofs.value.Tie as tie
+use Rattle.dividing.proofs.Values.{in-float, value-itself, value-divided}
+use Rattle.dividing.proofs.value.Statement.{statement}
+use Rattle.dividing.proofs.value.Tie as tie
 
 -- the display as it is read
 shown : (s : tie.Start) → toZ w32 (ofZ w32 (s .args .display)) ≡ s .args .display

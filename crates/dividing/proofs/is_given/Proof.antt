@@ -1,4 +1,4 @@
--- `filing::is_given` meets its contract: bits are judged at the one display that they can be of. Assumes nothing.
+-- `dividing::is_given` meets its contract: bits are judged at the one display that they can be of. Assumes nothing.
 use mathlib.Core.Path.{_≡_, sym, ap, _∙_}
 use mathlib.Core.Bool.{_&&_}
 use native.Mathlib.Omega.{arith}
@@ -11,8 +11,8 @@ use Rattle.exact.proofs.Z.{back64}
 use Rattle.reading.specs.Reading.{inDisplay}
 use Rattle.binary32.specs.Binary32.{bits, gives, displayOf}
 use Rattle.binary32.proofs.Judge.{zero-given, field-outside, judged-once}
-use Rattle.filing.proofs.is_given.Statement.{statement}
-use Rattle.filing.proofs.is_given.Tie as tie
+use Rattle.dividing.proofs.is_given.Statement.{statement}
+use Rattle.dividing.proofs.is_given.Tie as tie
 
 returns : tie.Need-returns
 returns c =

@@ -1,4 +1,4 @@
--- `filing::bits` meets its contract: a display's value is a number, and its bits are read. Assumes nothing.
+-- `dividing::bits` meets its contract: a display's value is a number, and its bits are read. Assumes nothing.
 use borrow.Author.Needs.{needs}
 use mathlib.Core.Path.{_≡_, sym, ap, _∙_, subst}
 use mathlib.Core.Bool.{Bool, not}
@@ -7,9 +7,9 @@ use lib.Ieee.{binary32, isNan, toBits}
 use mir.Syntax.{w32}
 use mir.ValLaws.{toZ-ofZ}
 use Rattle.binary32.specs.Binary32.{value, bits}
-use Rattle.filing.proofs.Values.{is-number}
-use Rattle.filing.proofs.bits.Statement.{statement}
-use Rattle.filing.proofs.bits.Tie as tie
+use Rattle.dividing.proofs.Values.{is-number}
+use Rattle.dividing.proofs.bits.Statement.{statement}
+use Rattle.dividing.proofs.bits.Tie as tie
 
 value-requires : tie.Need-value-requires
 value-requires c κs = search needs

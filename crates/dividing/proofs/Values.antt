@@ -7,13 +7,10 @@ use lib.Dec.{T, le→leb, lt→ltb}
 use lib.IntN.{ℤ, pos, negsuc, natAbs}
 use lib.Ieee.{binary32, inFloat, isNan, nanBits, ofInt, div}
 use lib.Ieee.Bits.{nanBits-is}
-use Rattle.reading.specs.Reading.{inDisplay, displayable}
-use Rattle.reading.specs.declared.Reading.{Reading}
-use Rattle.reading.specs.declared.Reading.the-variants.{Nothing, Under, Number, Over}
+use Rattle.reading.specs.Reading.{inDisplay}
 use Rattle.binary32.specs.Binary32.{value, bits, gives}
 use Rattle.binary32.proofs.Told.{told}
 use Rattle.binary32.proofs.Gives.{gives-is}
-use Rattle.filed.specs.Filed.{datumOf, hasBits}
 
 -- a whole number of at most 24 digits becomes a binary32 without loss
 pub in-float : (z : ℤ) → natAbs z ≤ 2 ^ 24 → T (inFloat binary32 z)
@@ -37,13 +34,6 @@ pub is-number : (places : ℕ) (z : ℤ) → places ≤ 4 → inDisplay z ≡ tr
 is-number places z p h =
     let t = told places p z h in
     ap isNan (sym (t .stands)) ∙ sym (nanBits-is binary32 (bits places z)) ∙ t .number
-
-pub datum-number : (places : ℕ) (shown : Reading) → places ≤ 4 → displayable shown ≡ true → hasBits (datumOf places shown) ≡ true
-unfolding displayable
-datum-number places Nothing p h = refl
-datum-number places Under p h = refl
-datum-number places (Number z) p h = ap not (is-number places z p h)
-datum-number places Over p h = refl
 
 -- and so are bits that some display has
 pub given-number : (places b : ℕ) → places ≤ 4 → gives places b ≡ true → T (not (nanBits binary32 b))

@@ -1,4 +1,4 @@
--- `filing::display_of` meets its contract: significand times power, on its side of zero, to the nearest unit. Assumes nothing.
+-- `dividing::display_of` meets its contract: significand times power, on its side of zero, to the nearest unit. Assumes nothing.
 use mathlib.Core.Path.{_≡_, refl, ap, _∙_}
 use Prim.Native.Nat.{ℕ, _-_, _*_, _%_, _^_, _≤_}
 use native.Mathlib.Omega.{arith}
@@ -10,9 +10,9 @@ use mir.Val.{toZ, ofZ}
 use Rattle.exact.proofs.Z.{rd, fits-as, abs-fits, abs-neg, minus, back64}
 use Rattle.binary32.specs.Binary32.{field, significand, displayOf}
 use Rattle.binary32.proofs.Value.{power-most}
-use Rattle.filing.proofs.Units.{times-small, unit-small, shifted, read-times, read-unit, fraction, turned-fits}
-use Rattle.filing.proofs.display_of.Statement.{statement}
-use Rattle.filing.proofs.display_of.Tie as tie
+use Rattle.dividing.proofs.Units.{times-small, unit-small, shifted, read-times, read-unit, fraction, turned-fits}
+use Rattle.dividing.proofs.display_of.Statement.{statement}
+use Rattle.dividing.proofs.display_of.Tie as tie
 
 -- the power of ten, as the call gives it
 power : (c : tie.After-power-of-ten) → c .power-of-ten .result ≤ 10000
