@@ -1,5 +1,5 @@
--- A reading as it is filed with the historian, as document 02 has it: what is written of it, and what is read of any bytes.
-use mathlib.Core.Bool.{Bool, true, cond, not, _&&_, _||_}
+-- A reading as it is filed with the historian, as document 02 has it: how it is given, what is written of it, and what is read of any bytes.
+use mathlib.Core.Bool.{Bool, true, cond, not, _||_}
 use mathlib.Core.List.{List, [], _∷_}
 use Prim.Native.Nat.{ℕ, _+_, _*_, _/_, _%_, _^_}
 use lib.Dec.{eqb, ltb}
@@ -72,6 +72,11 @@ hasBits Over = true
 hasBits Under = true
 hasBits Nothing = true
 
+-- the same of what is taken
+abbrev pub hasBitsIn : Taken → Bool
+hasBitsIn (taken.Record x) = hasBits (x .datum)
+hasBitsIn (taken.Refused why) = true
+
 -- four bytes, low byte first
 abbrev pub lowFirst : ℕ → List ℕ
 lowFirst b = b % 256 ∷ b / 256 % 256 ∷ b / 256 ^ 2 % 256 ∷ b / 256 ^ 3 % 256 ∷ []
@@ -80,11 +85,20 @@ lowFirst b = b % 256 ∷ b / 256 % 256 ∷ b / 256 ^ 2 % 256 ∷ b / 256 ^ 3 % 2
 unfoldable pub recordOf : ℕ → Datum → List ℕ
 recordOf places x = kindOf x ∷ places ∷ 0 ∷ 0 ∷ lowFirst (bitsOf x)
 
--- ---- the writer
+-- ---- a reading, given
 
 -- 0 to 4 places
 abbrev pub inPlaces : ℤ → Bool
 inPlaces places = within (pos 0) (pos 4) places
+
+-- a reading with the places of its input: 32 for other places, 33 for a number that is no display, in this order
+unfoldable pub givenOf : Reading → ℤ → Taken
+givenOf shown places =
+    cond (not (inPlaces places)) (taken.Refused refusal.Places)
+    (cond (not (displayable shown)) (taken.Refused refusal.Value)
+    (taken.Record (record { places = natAbs places; datum = datumOf (natAbs places) shown })))
+
+-- ---- the writer
 
 -- what is written of a reading
 abbrev pub filed : ℤ → Reading → List ℕ
@@ -94,16 +108,21 @@ filed places shown = recordOf (natAbs places) (datumOf (natAbs places) shown)
 abbrev pub roomed : List ℕ → ℕ → Written
 roomed buffer place = cond (room (length buffer) place 8) (written.Bytes 8) written.NoRoom
 
--- 32 for other places, 33 for a number that is no display, 9 where there is no room, else 2 with 8 bytes, in this order
-unfoldable pub writtenOf : Reading → ℤ → List ℕ → ℕ → Written
-writtenOf shown places buffer place =
-    cond (not (inPlaces places)) (written.Refused refusal.Places)
-    (cond (not (displayable shown)) (written.Refused refusal.Value)
-    (roomed buffer place))
+-- of what was given: 2 with 8 bytes, or 9 where there is no room; a refusal stays one
+abbrev pub writtenWhere : Taken → List ℕ → ℕ → Written
+writtenWhere (taken.Record x) buffer place = roomed buffer place
+writtenWhere (taken.Refused why) buffer place = written.Refused why
 
 -- the buffer afterwards: with the record in it, as a reply would be, or as it was
+abbrev pub leftWhere : Taken → List ℕ → ℕ → List ℕ
+leftWhere (taken.Record x) buffer place = after buffer place (recordOf (x .places) (x .datum))
+leftWhere (taken.Refused why) buffer place = buffer
+
+unfoldable pub writtenOf : Reading → ℤ → List ℕ → ℕ → Written
+writtenOf shown places buffer place = writtenWhere (givenOf shown places) buffer place
+
 unfoldable pub left : Reading → ℤ → List ℕ → ℕ → List ℕ
-left shown places buffer place = cond (inPlaces places && displayable shown) (after buffer place (filed places shown)) buffer
+left shown places buffer place = leftWhere (givenOf shown places) buffer place
 
 -- ---- the reader
 

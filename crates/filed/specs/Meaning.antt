@@ -5,13 +5,13 @@ use mathlib.Core.Bool.{Bool, true, false}
 use mathlib.Core.List.{List, [], _∷_, map}
 use mathlib.Core.Logic.{_≢_}
 use Prim.Native.Nat.{ℕ, _^_, _≤_, _<_}
-use lib.IntN.{ℤ, natAbs}
+use lib.IntN.{ℤ}
 use lib.ListN.{length, take, getD}
 use lib.Ieee.{inf, binary32, toBits, nanBits}
 use Rattle.reading.specs.Reading.{displayable}
 use Rattle.reading.specs.declared.Reading.{Reading}
 use Rattle.line.specs.Buffer.{room, laid}
-use Rattle.filed.specs.Filed.{refusalNumber, number, carried, datumOf, lowFirst, recordOf, inPlaces, filed, writtenOf, left, takenOf}
+use Rattle.filed.specs.Filed.{refusalNumber, number, carried, datumOf, lowFirst, recordOf, inPlaces, givenOf, filed, writtenOf, left, takenOf}
 use Rattle.filed.specs.declared.Record.{Record}
 use Rattle.filed.specs.declared.Refusal.the-variants as refusal
 use Rattle.filed.specs.declared.Written.the-variants as written
@@ -94,6 +94,5 @@ pub record Writes (shown : Reading) (places : ℤ) (buffer : List ℕ) (place : 
   pub record-laid : number (writtenOf shown places buffer place) ≡ 2 → left shown places buffer place ≡ laid buffer place (filed places shown)
   pub eight-bytes : (number (writtenOf shown places buffer place) ≡ 2 → carried (writtenOf shown places buffer place) ≡ 8) × (length (filed places shown) ≡ 8)
   pub untouched : number (writtenOf shown places buffer place) ≢ 2 → left shown places buffer place ≡ buffer
-  -- and it is read back
-  pub read-back : number (writtenOf shown places buffer place) ≡ 2
-      → takenOf (filed places shown) ≡ taken.Record (record { places = natAbs places; datum = datumOf (natAbs places) shown })
+  -- and what is read of it is what was given
+  pub read-back : inPlaces places ≡ true → displayable shown ≡ true → takenOf (filed places shown) ≡ givenOf shown places

@@ -30,7 +30,7 @@ pub enum Written {
     Refused(Refusal),
 }
 
-// What bytes are taken for: a record, or they are refused.
+// What a reading or bytes are taken for: a record, or they are refused.
 pub enum Taken {
     Record(Record),
     Refused(Refusal),

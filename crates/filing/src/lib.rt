@@ -1,4 +1,4 @@
-// The writer and the reader of what is filed with the historian.
+// A reading given as the historian takes it, and the writer and the reader of its records.
 ghost use mathlib.Core.Path.{_≡_};
 ghost use mathlib.Core.Bool.{true};
 ghost use mathlib.Core.List.{_∷_};
@@ -7,7 +7,7 @@ ghost use lib.Dec.{eqb};
 ghost use Rattle.reading.specs.Reading.{displayable};
 ghost use Rattle.line.specs.Buffer.{after};
 ghost use Rattle.binary32.specs.Binary32.{value, bits};
-ghost use Rattle.filed.specs.Filed.{refusalNumber, datumOf, hasBits, lowFirst, recordOf, roomed, writtenOf, left, takenWhere, recordAt, takenOf};
+ghost use Rattle.filed.specs.Filed.{refusalNumber, datumOf, hasBits, lowFirst, givenOf, recordOf, roomed, writtenOf, left, takenWhere, recordAt, takenOf};
 use filed::Datum;
 use filed::Record;
 use filed::Refusal;
@@ -15,7 +15,7 @@ use filed::Taken;
 use filed::Written;
 use reading::Reading;
 
-// ---- the writer
+// ---- a reading, given
 
 // A reading as the historian takes it.
 fn datum(reading: Reading, places: usize) -> Datum
@@ -30,6 +30,23 @@ fn datum(reading: Reading, places: usize) -> Datum
     }
 }
 
+// A reading, with the places of its input, as a value, Over, Under or none.
+pub fn give(reading: Reading, places: i32) -> Taken
+    ensures { λ r. ⌜ r ≡ givenOf reading places ⌝ }
+{
+    if !exact::is_within(places, 0, 4) {
+        return Taken::Refused(Refusal::Places);
+    }
+    if !reading::is_displayable(reading) {
+        return Taken::Refused(Refusal::Value);
+    }
+    let datum = datum(reading, places as usize);
+    let places = places as u8;
+    Taken::Record(Record { places, datum })
+}
+
+// ---- the writer
+
 // Kind, places, two zeros, and bits from the low byte on.
 fn record(kind: u8, places: u8, bits: u32) -> [u8; 8]
     ensures { λ r. ⌜ r ≡ kind ∷ places ∷ 0 ∷ 0 ∷ lowFirst bits ⌝ }
@@ -41,11 +58,13 @@ fn record(kind: u8, places: u8, bits: u32) -> [u8; 8]
     [kind, places, 0, 0, low, second, third, high]
 }
 
-// The record of a datum whose value, if it has one, is a number.
-fn record_of(places: u8, datum: Datum) -> [u8; 8]
-    requires { ⌜ hasBits datum ≡ true ⌝ }
-    ensures { λ r. ⌜ r ≡ recordOf places datum ⌝ }
+// The bytes of a record whose value, if it has one, is a number.
+fn bytes_of(said: Record) -> [u8; 8]
+    requires { ⌜ hasBits (said .datum) ≡ true ⌝ }
+    ensures { λ r. ⌜ r ≡ recordOf (said .places) (said .datum) ⌝ }
 {
+    let places = said.places;
+    let datum = said.datum;
     match datum {
         Datum::Value(x) => record(0, places, f32::to_bits(x)),
         Datum::Over => record(1, places, 0),
@@ -71,17 +90,11 @@ pub fn write(reading: Reading, places: i32, buf: &mut [u8], place: usize) -> Wri
     ensures { λ r. ⌜ r ≡ writtenOf reading places (now (buf .entry)) place ⌝ }
     ensures { λ _. ⌜ now (buf .exit) ≡ left reading places (now (buf .entry)) place ⌝ }
 {
-    if !exact::is_within(places, 0, 4) {
-        return Written::Refused(Refusal::Places);
+    let given = give(reading, places);
+    match given {
+        Taken::Record(said) => lay(buf, place, bytes_of(said)),
+        Taken::Refused(why) => Written::Refused(why),
     }
-    if !reading::is_displayable(reading) {
-        return Written::Refused(Refusal::Value);
-    }
-    lay(
-        buf,
-        place,
-        record_of(places as u8, datum(reading, places as usize)),
-    )
 }
 
 // ---- the reader

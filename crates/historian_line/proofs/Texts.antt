@@ -12,7 +12,7 @@ use lib.Ieee.{binary32, isNan, ofBits, nanBits}
 use lib.Ieee.Bits.{nanBits-is, is-false}
 use Rattle.exact.proofs.Z.{either}
 use Rattle.binary32.specs.Binary32.{gives}
-use Rattle.filed.specs.Filed.{hasBits, bitsAt, takenWhere, recordAt, takenOf}
+use Rattle.filed.specs.Filed.{hasBits, hasBitsIn, bitsAt, takenWhere, recordAt, takenOf}
 use Rattle.filed.specs.declared.Datum.{Datum}
 use Rattle.filed.specs.declared.Datum.the-variants.{Value, Over, Under, Nothing}
 use Rattle.filed.specs.declared.Refusal.the-variants as refusal
@@ -23,7 +23,7 @@ use Rattle.filing.proofs.Datums.{or-right}
 use Rattle.hex.specs.Hex.{isText, bytesOf, hexed, over, filled}
 use Rattle.hex.specs.declared.Hexed.the-variants.{Bytes, Not}
 use Rattle.hex.proofs.Meaning.{hexed-only}
-use Rattle.historian_line.specs.Line.{unknown, showable, takenLine, readLine}
+use Rattle.historian_line.specs.Line.{unknown, takenLine, readLine}
 
 -- ---- the bytes that a text says
 
@@ -64,26 +64,26 @@ marks-shown : (kind : ℕ) → hasBits (cond (eqb kind 1) Over (cond (eqb kind 2
 marks-shown kind =
     either (λ (x : Datum). hasBits x ≡ true) (eqb kind 1) refl (either (λ (x : Datum). hasBits x ≡ true) (eqb kind 2) refl refl)
 
-record-shown : (kind places b : ℕ) → places ≤ 4 → showable (recordAt kind places b) ≡ true
+record-shown : (kind places b : ℕ) → places ≤ 4 → hasBitsIn (recordAt kind places b) ≡ true
 unfolding recordAt
 record-shown kind places b p = go (eqb kind 0) (gives places b) (eqb b 0) refl
   where
     go : (value given none : Bool) → gives places b ≡ given
-        → showable
+        → hasBitsIn
         (takenWhere (cond value given none) places (cond value (Value (ofBits binary32 b)) (cond (eqb kind 1) Over (cond (eqb kind 2) Under Nothing)))) ≡ true
     go true true none g = value-bits places b p g
     go true false none g = refl
     go false given true g = marks-shown kind
     go false given false g = refl
 
-pub shows : (l : List ℕ) → showable (takenOf l) ≡ true
+pub shows : (l : List ℕ) → hasBitsIn (takenOf l) ≡ true
 unfolding takenOf
 shows l =
-    either (λ (t : Taken). showable t ≡ true) (not (eqb (length l) 8)) refl
-    (either (λ (t : Taken). showable t ≡ true) (ltb 3 (getD l 0 0)) refl (go ((not (eqb (getD l 2 0) 0) || not (eqb (getD l 3 0) 0)) || ltb 4 (getD l 1 0)) refl))
+    either (λ (t : Taken). hasBitsIn t ≡ true) (not (eqb (length l) 8)) refl
+    (either (λ (t : Taken). hasBitsIn t ≡ true) (ltb 3 (getD l 0 0)) refl (go ((not (eqb (getD l 2 0) 0) || not (eqb (getD l 3 0) 0)) || ltb 4 (getD l 1 0)) refl))
   where
     go : (t : Bool) → ((not (eqb (getD l 2 0) 0) || not (eqb (getD l 3 0) 0)) || ltb 4 (getD l 1 0)) ≡ t
-        → showable (cond t (taken.Refused refusal.Places) (recordAt (getD l 0 0) (getD l 1 0) (bitsAt l))) ≡ true
+        → hasBitsIn (cond t (taken.Refused refusal.Places) (recordAt (getD l 0 0) (getD l 1 0) (bitsAt l))) ≡ true
     go true e = refl
     go false e =
         record-shown (getD l 0 0) (getD l 1 0) (bitsAt l)

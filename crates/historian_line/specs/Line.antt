@@ -1,7 +1,7 @@
 -- What a line of the historian's program asks, and what is printed of it, piece by piece: `W reading places` prints the record that is written of
 -- a reading, `R hex` what bytes are taken for, and any other line a question mark.
 use Prim.Native.Nat.{ℕ, _/_, _%_, _^_}
-use mathlib.Core.Bool.{Bool, true, cond, _&&_}
+use mathlib.Core.Bool.{Bool, cond, _&&_}
 use mathlib.Core.List.{List, [], _∷_, _++_}
 use lib.Dec.{leb, eqb}
 use lib.IntN.{ℤ}
@@ -10,7 +10,7 @@ use Rattle.reading.specs.Reading.{displayable}
 use Rattle.reading.specs.declared.Reading.{Reading}
 use Rattle.reading.specs.declared.Reading.the-variants.{Nothing, Under, Number, Over}
 use Rattle.register.specs.Bytes.{byte, ascii}
-use Rattle.filed.specs.Filed.{refusalNumber, kindOf, bitsOf, hasBits, inPlaces, filed, takenOf}
+use Rattle.filed.specs.Filed.{refusalNumber, kindOf, bitsOf, inPlaces, filed, takenOf}
 use Rattle.filed.specs.declared.Taken.{Taken}
 use Rattle.filed.specs.declared.Taken.the-variants as taken
 use Rattle.text.specs.Line.{Heard, bytes, long, before, after, has, kept}
@@ -79,11 +79,6 @@ fieldsLine kind places b = kindPieces kind places ++ bitsPieces b
 unfoldable pub takenLine : Taken → List (List ℕ)
 takenLine (taken.Record x) = fieldsLine (kindOf (x .datum)) (x .places) (bitsOf (x .datum))
 takenLine (taken.Refused why) = (numeral (refusalNumber why) ∷ []) ++ ended
-
--- a record whose value, if it has one, has bits to show
-abbrev pub showable : Taken → Bool
-showable (taken.Record x) = hasBits (x .datum)
-showable (taken.Refused why) = true
 
 unfoldable pub readLine : List ℕ → List (List ℕ)
 readLine s = cond (isText s) (takenLine (takenOf (bytesOf s))) unknown

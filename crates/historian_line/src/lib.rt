@@ -3,8 +3,8 @@ ghost use mathlib.Core.Path.{_≡_};
 ghost use mathlib.Core.Bool.{true};
 ghost use Rattle.text.specs.Line.{heard};
 ghost use Rattle.text.specs.Output.{waiting, puts};
-ghost use Rattle.filed.specs.Filed.{hasBits, kindOf, bitsOf};
-ghost use Rattle.historian_line.specs.Line.{unknown, isMark, numberNamed, readingNamed, recordLine, askedLine, writeLine, kindPieces, bitsPieces, fieldsLine, showable, takenLine, readLine, byLetter, lineShown, heardShown};
+ghost use Rattle.filed.specs.Filed.{hasBits, hasBitsIn, kindOf, bitsOf};
+ghost use Rattle.historian_line.specs.Line.{unknown, isMark, numberNamed, readingNamed, recordLine, askedLine, writeLine, kindPieces, bitsPieces, fieldsLine, takenLine, readLine, byLetter, lineShown, heardShown};
 use filed::Datum;
 use filed::Record;
 use filed::Taken;
@@ -161,7 +161,7 @@ fn put_said(buf: &mut [u8], o: Out, said: Record) -> Out
 
 // What bytes were taken for.
 fn put_taken(buf: &mut [u8], o: Out, t: Taken) -> Out
-    requires { ⌜ showable t ≡ true ⌝ }
+    requires { ⌜ hasBitsIn t ≡ true ⌝ }
     ensures { λ r. ⌜ waiting (r .at) (now (buf .exit)) ≡ puts (waiting (o .at) (now (buf .entry))) (takenLine t) ⌝ }
 {
     match t {

@@ -3,11 +3,11 @@ use mathlib.Core.Path.{_≡_, sym, ap, _∙_, subst}
 use mathlib.Core.List.{List}
 use Prim.Native.Nat.{ℕ, _-_, _≤_}
 use lib.ListN.{length, take, drop}
-use Rattle.filed.specs.Filed.{takenOf}
+use Rattle.filed.specs.Filed.{hasBitsIn, takenOf}
 use Rattle.hex.specs.Hex.{hexed}
 use Rattle.hex.specs.declared.Hexed.the-variants.{Bytes}
 use Rattle.text.proofs.Pieces.{alike}
-use Rattle.historian_line.specs.Line.{showable, takenLine}
+use Rattle.historian_line.specs.Line.{takenLine}
 use Rattle.historian_line.proofs.Texts.{fits-in, said-first, read-known, read-unknown, shows}
 use borrow.Author.Needs.{needs}
 use Rattle.historian_line.proofs.put_read.Statement.{statement}
@@ -39,7 +39,7 @@ read-requires : tie.Need-read-requires
 read-requires c κs = search needs
 
 put-taken-requires : tie.Need-put-taken-requires
-put-taken-requires c κs = ap showable (c .read .ensures) ∙ shows _
+put-taken-requires c κs = ap hasBitsIn (c .read .ensures) ∙ shows _
 
 enum-told : tie.Need-enum-told
 enum-told c = search needs

@@ -1,12 +1,12 @@
--- `filing::record_of` meets its contract: each arm of the match is a case of the definition. Assumes nothing.
+-- `filing::bytes_of` meets its contract: each arm of the match is a case of the definition. Assumes nothing.
 use mathlib.Core.Path.{_≡_, sym, ap, _∙_, subst}
 use mathlib.Core.Bool.{true}
 use borrow.Author.Needs.{needs}
 use Rattle.exact.proofs.Z.{holds}
 use Rattle.filed.specs.Filed.{hasBits, recordOf}
 use Rattle.filed.specs.declared.Datum.{Datum}
-use Rattle.filing.proofs.record_of.Statement.{statement}
-use Rattle.filing.proofs.record_of.Tie as tie
+use Rattle.filing.proofs.bytes_of.Statement.{statement}
+use Rattle.filing.proofs.bytes_of.Tie as tie
 
 enum-known-datum : tie.Need-enum-known-datum
 enum-known-datum c = search needs
@@ -40,28 +40,28 @@ returns : tie.Need-returns
 unfolding recordOf
 returns c =
     let s = c .before .before .before .before in
-    c .«record» .ensures ∙ ap (recordOf (s .args .places)) (sym (c .before .before .datum .given .1))
+    c .«record» .ensures ∙ ap (recordOf (s .args .said .places)) (sym (c .before .before .datum .given .1))
 
 returns-2 : tie.Need-returns-2
 unfolding recordOf
 returns-2 c =
     let s = c .before .before .before in
-    c .record2 .ensures ∙ ap (recordOf (s .args .places)) (sym (c .before .enum-told .given .1))
+    c .record2 .ensures ∙ ap (recordOf (s .args .said .places)) (sym (c .before .enum-told .given .1))
 
 returns-3 : tie.Need-returns-3
 unfolding recordOf
 returns-3 c =
     let s = c .before .before .before in
-    c .record3 .ensures ∙ ap (recordOf (s .args .places)) (sym (c .before .enum-told2 .given .1))
+    c .record3 .ensures ∙ ap (recordOf (s .args .said .places)) (sym (c .before .enum-told2 .given .1))
 
 returns-4 : tie.Need-returns-4
 unfolding recordOf
 returns-4 c =
     let s = c .before .before .before in
-    c .record4 .ensures ∙ ap (recordOf (s .args .places)) (sym (c .before .enum-told3 .given .1))
+    c .record4 .ensures ∙ ap (recordOf (s .args .said .places)) (sym (c .before .enum-told3 .given .1))
 
-pub record-of-spec : {M : Type 1} → statement M
-record-of-spec =
+pub bytes-of-spec : {M : Type 1} → statement M
+bytes-of-spec =
     tie.close
     (tie.spec
     enum-known-datum
