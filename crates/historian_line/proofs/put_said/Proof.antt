@@ -1,6 +1,8 @@
 -- `historian_line::put_said` meets its contract: each arm of the match is a case of the definitions. Assumes nothing.
 use mathlib.Core.Path.{_≡_, sym, ap, subst}
 use mathlib.Core.Bool.{true}
+use mathlib.Core.List.{List}
+use Prim.Native.Nat.{ℕ}
 use Rattle.exact.proofs.Z.{holds}
 use Rattle.text.proofs.Pieces.{alike}
 use Rattle.filed.specs.Filed.{hasBits, kindOf, bitsOf}
@@ -9,6 +11,10 @@ use Rattle.historian_line.specs.Line.{fieldsLine}
 use borrow.Author.Needs.{needs}
 use Rattle.historian_line.proofs.put_said.Statement.{statement}
 use Rattle.historian_line.proofs.put_said.Tie as tie
+
+-- what is printed of a datum with its places
+abbrev pieces : ℕ → Datum → List (List ℕ)
+pieces places x = fieldsLine (kindOf x) places (bitsOf x)
 
 enum-known-datum : tie.Need-enum-known-datum
 enum-known-datum c = search needs
@@ -45,7 +51,7 @@ returns : tie.Need-returns
 returns c =
     let t = c .before .before .before .before .before in
     let a = t .before .before .before .args in
-    alike _ _ _ _ (ap (λ (x : Datum). fieldsLine (kindOf x) (a .said .places) (bitsOf x)) (sym (t .datum .given .1))) (c .before .before .put-fields .ensures)
+    alike _ _ _ _ (ap (pieces (a .said .places)) (sym (t .datum .given .1))) (c .before .before .put-fields .ensures)
 
 same-length-2 : tie.Need-same-length-2
 same-length-2 c = search needs
@@ -54,7 +60,7 @@ returns-2 : tie.Need-returns-2
 returns-2 c =
     let t = c .before .before .before .before in
     let a = t .before .before .before .args in
-    alike _ _ _ _ (ap (λ (x : Datum). fieldsLine (kindOf x) (a .said .places) (bitsOf x)) (sym (t .enum-told .given .1))) (c .before .before .put-fields2 .ensures)
+    alike _ _ _ _ (ap (pieces (a .said .places)) (sym (t .enum-told .given .1))) (c .before .before .put-fields2 .ensures)
 
 same-length-3 : tie.Need-same-length-3
 same-length-3 c = search needs
@@ -63,7 +69,7 @@ returns-3 : tie.Need-returns-3
 returns-3 c =
     let t = c .before .before .before .before in
     let a = t .before .before .before .args in
-    alike _ _ _ _ (ap (λ (x : Datum). fieldsLine (kindOf x) (a .said .places) (bitsOf x)) (sym (t .enum-told2 .given .1))) (c .before .before .put-fields3 .ensures)
+    alike _ _ _ _ (ap (pieces (a .said .places)) (sym (t .enum-told2 .given .1))) (c .before .before .put-fields3 .ensures)
 
 same-length-4 : tie.Need-same-length-4
 same-length-4 c = search needs
@@ -72,7 +78,7 @@ returns-4 : tie.Need-returns-4
 returns-4 c =
     let t = c .before .before .before .before in
     let a = t .before .before .before .args in
-    alike _ _ _ _ (ap (λ (x : Datum). fieldsLine (kindOf x) (a .said .places) (bitsOf x)) (sym (t .enum-told3 .given .1))) (c .before .before .put-fields4 .ensures)
+    alike _ _ _ _ (ap (pieces (a .said .places)) (sym (t .enum-told3 .given .1))) (c .before .before .put-fields4 .ensures)
 
 pub put-said-spec : {M : Type 1} → statement M
 put-said-spec =
