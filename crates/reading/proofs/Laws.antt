@@ -92,31 +92,32 @@ pub judged-in : (v : ℤ) → inDisplay v ≡ true → judged v ≡ Number v
 unfolding judged
 judged-in v i = let n = within-not (minus 19999) (pos 99999) v i in rw (n .0, n .1)
 
-module _ (inputs displays : List ℤ) (count : ℕ) (step : ℤ) (a : Scalable inputs displays count step) where
+-- in any list of inputs of which each is below the next
+module _ (inputs : List ℤ) (count : ℕ) (rising : (k : ℕ) → k + 1 < count → ltZ (point inputs k) (point inputs (k + 1)) ≡ true) where
   -- the inputs of any two points rise
   rising-by : (j m k : ℕ) → k ≡ j + m + 1 → k < count → ltZ (point inputs j) (point inputs k) ≡ true
   rising-by j zero k e h =
       let e′ : k ≡ j + 1 = omega arith in
-      rw e′ (a .rising j (omega arith))
+      rw e′ (rising j (omega arith))
   rising-by j (suc m) k e h =
       let e′ : k ≡ (j + m + 1) + 1 = omega arith in
       rw e′
       (lt-trans (point inputs j) (point inputs (j + m + 1)) (point inputs ((j + m + 1) + 1))
-      (rising-by j m (j + m + 1) refl (omega arith)) (a .rising (j + m + 1) (omega arith)))
+      (rising-by j m (j + m + 1) refl (omega arith)) (rising (j + m + 1) (omega arith)))
 
   pub rising-between : (j k : ℕ) → j < k → k < count → ltZ (point inputs j) (point inputs k) ≡ true
   rising-between j k l h = rising-by j (k - (j + 1)) k (omega arith) h
 
   -- the first point lies on the first segment, every other at the right end of the one before it
-  first-segment : IsSegment inputs count (point inputs 0) 0
-  first-segment =
+  pub first-segment : 2 ≤ count → IsSegment inputs count (point inputs 0) 0
+  first-segment h =
       record {
-        there = omega (arith, a .two);
+        there = omega arith;
         before = λ j l. absurd (omega arith);
-        here = λ l. lt-le (point inputs 0) (point inputs 1) (a .rising 0 (omega arith));
+        here = λ l. lt-le (point inputs 0) (point inputs 1) (rising 0 (omega arith));
       }
 
-  later-segment : (j : ℕ) → j + 1 < count → IsSegment inputs count (point inputs (j + 1)) j
+  pub later-segment : (j : ℕ) → j + 1 < count → IsSegment inputs count (point inputs (j + 1)) j
   later-segment j h =
       record {
         there = h;
@@ -124,14 +125,15 @@ module _ (inputs displays : List ℤ) (count : ℕ) (step : ℤ) (a : Scalable i
         here = λ l. le-refl (point inputs (j + 1));
       }
 
+module _ (inputs displays : List ℤ) (count : ℕ) (step : ℤ) (a : Scalable inputs displays count step) where
   line-first : onSegment inputs displays (segment inputs count (point inputs 0)) (point inputs 0) ≡ point displays 0
   line-first =
-      rw (segment-only inputs count (point inputs 0) 0 first-segment)
+      rw (segment-only inputs count (point inputs 0) 0 (first-segment inputs count (a .rising) (a .two)))
       (line-left (point inputs 0) (point displays 0) (point inputs 1) (point displays 1) (a .rising 0 (omega (arith, a .two))))
 
   line-later : (j : ℕ) → j + 1 < count → onSegment inputs displays (segment inputs count (point inputs (j + 1))) (point inputs (j + 1)) ≡ point displays (j + 1)
   line-later j h =
-      rw (segment-only inputs count (point inputs (j + 1)) j (later-segment j h))
+      rw (segment-only inputs count (point inputs (j + 1)) j (later-segment inputs count (a .rising) j h))
       (line-right (point inputs j) (point displays j) (point inputs (j + 1)) (point displays (j + 1)) (a .rising j h))
 
   line-at : (k : ℕ) → k < count → onSegment inputs displays (segment inputs count (point inputs k)) (point inputs k) ≡ point displays k
