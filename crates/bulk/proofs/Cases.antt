@@ -1,11 +1,15 @@
--- Worked cases of reading in bulk, on a scale that goes up by 100 from 5 to 15 and down by 150 from there to 45. Assumes nothing.
+-- Worked cases of reading in bulk, on a scale that goes up by 100 from 5 to 15 and down by 150 from there to 45, and of a platinum sensor.
+-- Assumes nothing.
 use mathlib.Core.Path.{_≡_, refl}
 use mathlib.Core.List.{List, [], _∷_}
 use lib.IntN.{ℤ, pos}
 use Rattle.exact.specs.Sign.{minus}
 use Rattle.exact.specs.Exact.{halfUp, nearest, toStep}
-use Rattle.reading.specs.Reading.{upTo, firstFrom, judged, displayed}
-use Rattle.segments.specs.Segments.{listed, noSegments, segmentsOf, along, readOn, tested}
+use Rattle.reading.specs.Reading.{upTo, segment, firstFrom, onLine, judged, displayed}
+use Rattle.platinum.specs.Table.{resistances}
+use Rattle.platinum.specs.Platinum.{tenthsAt, sensed}
+use Rattle.config.specs.declared.Source.the-variants.{Platinum}
+use Rattle.segments.specs.Segments.{listed, unused, noSegments, segmentsOf, along, readOn, tested}
 use Rattle.segments.proofs.Cases.{corner}
 use Rattle.bulk.specs.Bulk.{readInto, left}
 
@@ -35,3 +39,11 @@ as-many-as-fit = refl
 pub none-read : left noSegments three (pos 7 ∷ pos 8 ∷ []) ≡ pos 7 ∷ pos 8 ∷ []
 unfolding tested upTo
 none-read = refl
+
+-- a platinum sensor: past both ends, at them, and between the first two entries
+abbrev ohms : List ℤ
+ohms = pos 18519 ∷ pos 18520 ∷ pos 18736 ∷ pos 18952 ∷ pos 390482 ∷ []
+
+pub ohms-read : left (unused Platinum (pos 1)) ohms ohms ≡ minus 20000 ∷ minus 2000 ∷ minus 1995 ∷ minus 1990 ∷ pos 100000 ∷ []
+unfolding tested upTo readInto sensed resistances tenthsAt segment firstFrom onLine displayed judged toStep nearest halfUp
+ohms-read = refl

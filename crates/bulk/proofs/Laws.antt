@@ -16,10 +16,11 @@ use Rattle.config.specs.Config as configs
 use Rattle.config.specs.declared.Config.{Config}
 use Rattle.config.specs.declared.Verdict.the-variants.{Accepted}
 use Rattle.config.proofs.Acceptance.{scale-accepted}
+use Rattle.source.proofs.Laws as sources
 use Rattle.segments.specs.Segments.{segmentsOf, readOn, read, canScale}
 use Rattle.segments.specs.declared.Segments.{Segments}
 use Rattle.segments.proofs.ByPoints.{read-displayable, reads, passes}
-use Rattle.bulk.specs.Bulk.{numberOf, readInto, at, Rescales, ByPoints, Told}
+use Rattle.bulk.specs.Bulk.{numberOf, readInto, at, Rescales, BySource, Told}
 use Rattle.bulk.proofs.Reading.{read-length}
 
 -- ---- place by place
@@ -48,8 +49,8 @@ rescales s inputs readings =
       refused = λ no. rw no;
     }
 
-pub by-points : (c : Config) (accepted : configs.judged c ≡ Accepted) (inputs readings : List ℤ) → ByPoints c accepted inputs readings
-by-points c accepted inputs readings =
+pub by-source : (c : Config) (accepted : configs.judged c ≡ Accepted) (inputs readings : List ℤ) → BySource c accepted inputs readings
+by-source c accepted inputs readings =
     let s = segmentsOf (c .scale) in
     let ok = passes (c .scale) (scale-accepted c accepted) in
     record {
@@ -72,11 +73,16 @@ judged-something v =
     (either (λ (r : Reading). isNothing r ≡ false) (ltZ v (minus 19999)) {x = Under} {y = Number v} refl refl)
 
 -- no input reads Nothing
-read-something : (s : Segments) (x : ℤ) → isNothing (read s x) ≡ false
+on-something : (inputs displays rises runs : List ℤ) (last : ℕ) (step x : ℤ) → isNothing (readOn inputs displays rises runs last step x) ≡ false
 unfolding readOn displayed
-read-something s x =
+on-something inputs displays rises runs last step x =
     either (λ (r : Reading). isNothing r ≡ false) (ltZ (pos 99999) x) refl
     (either (λ (r : Reading). isNothing r ≡ false) (ltZ x (minus 99999)) refl (judged-something _))
+
+read-something : (s : Segments) (x : ℤ) → isNothing (read s x) ≡ false
+read-something s x =
+    sources.by-source (λ (r : Reading). isNothing r ≡ false) (s .source) (readOn (s .inputs) (s .displays) (s .rises) (s .runs) (s .last) (s .step)) (s .step) x
+    (on-something (s .inputs) (s .displays) (s .rises) (s .runs) (s .last) (s .step) x) refl refl judged-something
 
 -- a number of the display range is neither of the two that stand for Under and Over
 no-mark : (mark v : ℤ) → inDisplay mark ≡ false → mark ≡ v → inDisplay v ≡ true → ⊥

@@ -3,15 +3,15 @@ use mathlib.Core.Path.{_≡_}
 use mathlib.Core.Bool.{true, false, cond}
 use mathlib.Core.List.{List, [], _∷_}
 use Prim.Native.Nat.{ℕ, _≤_, _<_}
-use lib.IntN.{ℤ, pos, natAbs}
+use lib.IntN.{ℤ, pos}
 use lib.ListN.{length, getD}
 use Rattle.exact.specs.Sign.{minus}
-use Rattle.reading.specs.Reading.{readingOf}
 use Rattle.reading.specs.declared.Reading.{Reading}
 use Rattle.reading.specs.declared.Reading.the-variants.{Nothing, Under, Number, Over}
 use Rattle.config.specs.Config.{judged}
 use Rattle.config.specs.declared.Config.{Config}
 use Rattle.config.specs.declared.Verdict.the-variants.{Accepted}
+use Rattle.source.specs.Source.{readingBy}
 use Rattle.segments.specs.Segments.{segmentsOf, read, canScale}
 use Rattle.segments.specs.declared.Segments.{Segments}
 use Rattle.answer.specs.declared.Answer.{Answer}
@@ -52,12 +52,12 @@ pub record Rescales (s : Segments) (inputs readings : List ℤ) : Type 0 where
   pub behind : (k : ℕ) → length inputs ≤ k → at (left s inputs readings) k ≡ at readings k
   pub refused : canScale s ≡ false → left s inputs readings ≡ readings
 
--- of an accepted configuration the scale passes, and the number at a place stands for document 01's reading by points
-pub record ByPoints (c : Config) (accepted : judged c ≡ Accepted) (inputs readings : List ℤ) : Type 0 where
+-- of an accepted configuration the scale passes, and the number at a place stands for the reading by its source
+pub record BySource (c : Config) (accepted : judged c ≡ Accepted) (inputs readings : List ℤ) : Type 0 where
   pub answer : answered (segmentsOf (c .scale)) ≡ Done
   pub each : (k : ℕ) → k < length inputs → k < length readings
       → at (left (segmentsOf (c .scale)) inputs readings) k
-      ≡ numberOf (readingOf (c .scale .inputs) (c .scale .displays) (natAbs (c .scale .count)) (c .scale .step) (at inputs k))
+      ≡ numberOf (readingBy (c .scale) (at inputs k))
 
 -- the numbers tell apart what can be read: no input reads Nothing, and no number of the display range is 100,000 or -20,000
 abbrev pub Told : Type 0

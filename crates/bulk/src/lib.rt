@@ -24,6 +24,7 @@ pub fn read_all(s: Segments, inputs: &[i32], readings: &mut [i32]) -> Answer
     ensures { λ r. ⌜ r ≡ answered s ⌝ }
     ensures { λ _. ⌜ now (readings .exit) ≡ left s (now (inputs .entry)) (now (readings .entry)) ⌝ }
 {
+    let source = s.source;
     let last = s.last;
     let step = s.step;
     let starts = s.inputs;
@@ -36,7 +37,16 @@ pub fn read_all(s: Segments, inputs: &[i32], readings: &mut [i32]) -> Answer
     let at = last as usize;
     let mut i = 0;
     while (i < inputs.len()) & (i < readings.len()) {
-        let r = scaling::reading_of(&starts, &displays, &rises, &runs, at, step, inputs[i]);
+        let r = scaling::reading_of(
+            source,
+            &starts,
+            &displays,
+            &rises,
+            &runs,
+            at,
+            step,
+            inputs[i],
+        );
         readings[i] = number_of(r);
         i += 1;
     }

@@ -10,10 +10,11 @@ use Rattle.exact.specs.Tables.{steps, among}
 use Rattle.exact.proofs.Z.{both, from-to, turned-true}
 use Rattle.exact.proofs.Table.{among-rule}
 use Rattle.reading.specs.Reading.{inDisplay}
-use Rattle.reading.specs.Reading as scaling
 use Rattle.reading.proofs.Scale as scale
-use Rattle.config.specs.Config.{nodeRule, placesRule, stepRule, countRule, pointsRule, totalRule, timeBases, analogRule, rules, judged}
+use Rattle.config.specs.Config.{nodeRule, placesRule, inputPlaces, stepRule, countRule, pointsRule, totalRule, timeBases, analogRule, rules, judged}
+use Rattle.config.specs.Accepted.{Measurable}
 use Rattle.config.specs.declared.Config.{Config}
+use Rattle.config.specs.declared.Source.the-variants.{Points}
 use Rattle.config.specs.declared.Verdict.the-variants.{Accepted}
 use Rattle.config.proofs.Verdicts.{accepted}
 
@@ -30,13 +31,13 @@ module _ (c : Config) (a : judged c ≡ Accepted) where
 
   pub places-in : placesRule (c .talking .places) ≡ true
   unfolding rules
-  places-in = rule 1 (omega arith)
+  places-in = both (placesRule (c .talking .places)) (inputPlaces (c .scale .source) (c .talking .places .input)) (rule 1 (omega arith)) .0
 
   pub step-in : stepRule (c .scale) ≡ true
   unfolding rules
   step-in = rule 2 (omega arith)
 
-  pub count-in : countRule (c .scale) ≡ true
+  count-in : countRule (c .scale) ≡ true
   unfolding rules
   count-in = rule 3 (omega arith)
 
@@ -53,12 +54,24 @@ module _ (c : Config) (a : judged c ≡ Accepted) where
   analog-in = rule 9 (omega arith)
 
   -- the scale is one that an input can be read on
-  pub scale-accepted : scaling.Scalable (c .scale .inputs) (c .scale .displays) (natAbs (c .scale .count)) (c .scale .step)
+  step-small : within (pos 1) (pos 100) (c .scale .step) ≡ true
+  step-small = among-rule (within (pos 1) (pos 100)) (c .scale .step) steps 0 refl step-in
+
+  -- there are 2 to 16 points where the reading comes from them
+  counted : c .scale .source ≡ Points → within (pos 2) (pos 16) (c .scale .count) ≡ true
+  counted e = rw e at count-in
+
+  pub scale-accepted : Measurable (c .scale)
   scale-accepted =
       let s = c .scale in
-      let count = from-to (s .count) 2 16 count-in in
-      scale.accepted (s .inputs) (s .displays) (natAbs (s .count)) (s .step) (count .1 .0) (count .1 .1) points-in
-      (among-rule (within (pos 1) (pos 100)) (s .step) steps 0 refl step-in)
+      record {
+        step-in = step-small;
+        counted = λ e. from-to (s .count) 2 16 (counted e) .0;
+        scalable =
+            λ e.
+            let count = from-to (s .count) 2 16 (counted e) .1 in
+            scale.accepted (s .inputs) (s .displays) (natAbs (s .count)) (s .step) (count .0) (count .1) (rw e at points-in) step-small;
+      }
 
   -- the factor is 1 to 65,000 and the time base 1 to 86,400
   pub factor-in : within (pos 1) (pos 65000) (c .working .totalizer .factor) ≡ true

@@ -10,6 +10,7 @@ use Rattle.alarm.specs.Alarm.{noSettings}
 use Rattle.alarm.specs.declared.Settings.{Settings}
 use Rattle.register.specs.declared.Print.{Print}
 use Rattle.config.specs.declared.Config.{Config}
+use Rattle.config.specs.declared.Source.the-variants.{Points}
 
 -- nothing is printed
 abbrev noPrint : Print
@@ -19,7 +20,7 @@ noPrint = record { input = false; extremes = false; total = false; setpoints = f
 abbrev pub nothing : Config
 nothing =
     record {
-      scale = record { step = pos 0; count = pos 0; inputs = replicate 16 (pos 0); displays = replicate 16 (pos 0) };
+      scale = record { source = Points; step = pos 0; count = pos 0; inputs = replicate 16 (pos 0); displays = replicate 16 (pos 0) };
       working =
           record {
             totalizer = record { batch = false; «low_cut» = pos 0; factor = pos 0; «time_base» = pos 0 };
@@ -46,6 +47,7 @@ meterOf node step first second firstAlarm =
     record {
       scale =
           record {
+            source = Points;
             step = pos step;
             count = pos 2;
             inputs = pos (first .0) ∷ pos (second .0) ∷ replicate 14 (pos 0);

@@ -1,5 +1,5 @@
 -- The ten rules of a configuration, in document 01's order.
-use mathlib.Core.Bool.{Bool, cond, not, _&&_}
+use mathlib.Core.Bool.{Bool, true, cond, not, _&&_}
 use mathlib.Core.List.{List, [], _∷_}
 use Prim.Native.Nat.{ℕ, suc}
 use lib.IntN.{ℤ, pos, natAbs}
@@ -11,6 +11,8 @@ use Rattle.total.specs.declared.Totalizer.{Totalizer}
 use Rattle.alarm.specs.Alarm.{noSettings}
 use Rattle.alarm.specs.declared.Settings.{Settings}
 use Rattle.config.specs.declared.Places.{Places}
+use Rattle.config.specs.declared.Source.{Source}
+use Rattle.config.specs.declared.Source.the-variants.{Points, Platinum}
 use Rattle.config.specs.declared.Scale.{Scale}
 use Rattle.config.specs.declared.Analog.{Analog}
 use Rattle.config.specs.declared.Config.{Config}
@@ -27,17 +29,33 @@ nodeRule node = within (pos 0) (pos 99) node
 abbrev pub placesRule : Places → Bool
 placesRule p = within (pos 0) (pos 4) (p .input) && within (pos 0) (pos 4) (p .total)
 
+-- and those of the input 1 where it is a platinum sensor, whose readings are tenths of a degree
+abbrev pub inputPlaces : Source → ℤ → Bool
+inputPlaces Points places = true
+inputPlaces Platinum places = within (pos 1) (pos 1) places
+
+abbrev pub placesRuleBy : Source → Places → Bool
+placesRuleBy source p = placesRule p && inputPlaces source (p .input)
+
 -- 3: rounding 1, 2, 5, 10, 20, 50 or 100
 abbrev pub stepRule : Scale → Bool
 stepRule s = among (s .step) steps
 
+-- a rule that is judged where the reading comes from points, and not of a platinum sensor
+abbrev pub ofPoints : Source → Bool → Bool
+ofPoints Points kept = kept
+ofPoints Platinum kept = true
+
 -- 4: 2 to 16 scaling points
+abbrev pub pointCount : Source → ℤ → Bool
+pointCount source count = ofPoints source (within (pos 2) (pos 16) count)
+
 abbrev pub countRule : Scale → Bool
-countRule s = within (pos 2) (pos 16) (s .count)
+countRule s = pointCount (s .source) (s .count)
 
 -- 5: of the points in use, inputs -99,999 to 99,999, strictly rising, displays -19,999 to 99,999
 abbrev pub pointsRule : Scale → Bool
-pointsRule s = pointsIn (s .inputs) (s .displays) (natAbs (s .count))
+pointsRule s = ofPoints (s .source) (pointsIn (s .inputs) (s .displays) (natAbs (s .count)))
 
 -- 6: scale factor 1 to 65,000 thousandths, time base 1, 60, 3,600 or 86,400
 abbrev pub timeBases : List ℤ
@@ -78,7 +96,7 @@ analogRule a = inDisplay (a .low) && inDisplay (a .high) && not (eqZ (a .low) (a
 unfoldable pub rules : Config → List Bool
 rules c =
     nodeRule (c .talking .node)
-    ∷ placesRule (c .talking .places)
+    ∷ placesRuleBy (c .scale .source) (c .talking .places)
     ∷ stepRule (c .scale)
     ∷ countRule (c .scale)
     ∷ pointsRule (c .scale)

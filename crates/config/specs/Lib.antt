@@ -1,4 +1,5 @@
 pub mod Config
 pub mod Meaning
+pub mod Accepted
 pub mod Bench
 pub mod Limits

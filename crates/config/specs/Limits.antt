@@ -5,13 +5,14 @@ use mathlib.Core.Bool.{false}
 use mathlib.Core.List.{List, [], _∷_, _++_, map}
 use Prim.Native.Nat.{ℕ, suc, _*_}
 use lib.IntN.{ℤ, pos, _+ℤ_, _-ℤ_}
-use lib.ListN.{set}
+use lib.ListN.{set, take, drop}
 use Rattle.exact.specs.Sign.{minus}
 use Rattle.total.specs.declared.Totalizer.{Totalizer}
 use Rattle.alarm.specs.declared.Settings.{Settings}
 use Rattle.config.specs.Bench.{benchMeter}
 use Rattle.config.specs.Config.{judged}
 use Rattle.config.specs.declared.Scale.{Scale}
+use Rattle.config.specs.declared.Source.the-variants.{Platinum}
 use Rattle.config.specs.declared.Working.{Working}
 use Rattle.config.specs.declared.Talking.{Talking}
 use Rattle.config.specs.declared.Config.{Config}
@@ -38,18 +39,21 @@ node z = talking (λ t. record { node = z; places = t .places; abbreviated = t .
 abbrev places : (input total : ℤ) → Change
 places i o = talking (λ t. record { node = t .node; places = record { input = i; total = o }; abbreviated = t .abbreviated; print = t .print })
 
+abbrev platinum : Change
+platinum = scale (λ s. record { source = Platinum; step = s .step; count = s .count; inputs = s .inputs; displays = s .displays })
+
 abbrev step : ℤ → Change
-step z = scale (λ s. record { step = z; count = s .count; inputs = s .inputs; displays = s .displays })
+step z = scale (λ s. record { source = s .source; step = z; count = s .count; inputs = s .inputs; displays = s .displays })
 
 abbrev count : ℤ → Change
-count z = scale (λ s. record { step = s .step; count = z; inputs = s .inputs; displays = s .displays })
+count z = scale (λ s. record { source = s .source; step = s .step; count = z; inputs = s .inputs; displays = s .displays })
 
 -- point k and alarm k, counted from 0
 abbrev input : ℕ → ℤ → Change
-input k z = scale (λ s. record { step = s .step; count = s .count; inputs = set (s .inputs) k z; displays = s .displays })
+input k z = scale (λ s. record { source = s .source; step = s .step; count = s .count; inputs = set (s .inputs) k z; displays = s .displays })
 
 abbrev display : ℕ → ℤ → Change
-display k z = scale (λ s. record { step = s .step; count = s .count; inputs = s .inputs; displays = set (s .displays) k z })
+display k z = scale (λ s. record { source = s .source; step = s .step; count = s .count; inputs = s .inputs; displays = set (s .displays) k z })
 
 abbrev totalizer : (Totalizer → Totalizer) → Change
 totalizer f = working (λ w. record { totalizer = f (w .totalizer); capture = w .capture; alarms = w .alarms; analog = w .analog })
@@ -111,6 +115,7 @@ good =
     let sixteen : List ℕ = 0 ∷ 1 ∷ 2 ∷ 3 ∷ 4 ∷ 5 ∷ 6 ∷ 7 ∷ 8 ∷ 9 ∷ 10 ∷ 11 ∷ 12 ∷ 13 ∷ 14 ∷ 15 ∷ [] in
     scale
     (λ s. record {
+      source = s .source;
       step = s .step;
       count = s .count;
       inputs = map (λ k. pos (1000 * k)) sixteen;
@@ -140,12 +145,29 @@ breaks =
     ∷ analog (pos 100) (pos 100)
     ∷ []
 
-unfoldable pub rows : List Row
-rows =
+-- the rules that do not ask for the source; of the places those of the total
+abbrev alike : List Row
+alike =
     between 1 node (pos 0) (pos 99)
-    ++ between 2 (λ z. places z (pos 0)) (pos 0) (pos 4)
     ++ between 2 (λ z. places (pos 1) z) (pos 0) (pos 4)
     ++ oneOf 3 step (1 ∷ 2 ∷ 5 ∷ 10 ∷ 20 ∷ 50 ∷ 100 ∷ []) (0 ∷ 3 ∷ 25 ∷ 101 ∷ [])
+    ++ between 6 factor (pos 1) (pos 65000)
+    ++ oneOf 6 timeBase (1 ∷ 60 ∷ 3600 ∷ 86400 ∷ []) (0 ∷ 2 ∷ 86401 ∷ [])
+    ++ between 7 lowCut (minus 19999) (pos 99999)
+    ++ alarmRows 0
+    ++ alarmRows 1
+    ++ alarmRows 2
+    ++ alarmRows 3
+    ++ between 9 capture (pos 0) (pos 32750)
+    ++ between 10 (λ z. analog z (pos 10000)) (minus 19999) (pos 99999)
+    ++ between 10 (λ z. analog (pos 0) z) (minus 19999) (pos 99999)
+    ++ refuses 10 (analog (pos 100) (pos 100))
+    ∷ []
+
+-- of points
+abbrev byPoints : List Row
+byPoints =
+    between 2 (λ z. places z (pos 0)) (pos 0) (pos 4)
     ++ between 4 count (pos 2) (pos 16)
     -- inputs rise, so that the first point alone reaches the low limit and the last one in use the high one
     ++ accepts (input 0 (minus 99999))
@@ -162,18 +184,39 @@ rows =
     ∷ refuses 5 (λ c. count (pos 16) (input 15 (pos 100000) c))
     ∷ refuses 5 (λ c. count (pos 16) (input 15 (pos 14000) c))
     ∷ refuses 5 (λ c. count (pos 16) (display 15 (pos 100000) c))
-    ∷ between 6 factor (pos 1) (pos 65000)
-    ++ oneOf 6 timeBase (1 ∷ 60 ∷ 3600 ∷ 86400 ∷ []) (0 ∷ 2 ∷ 86401 ∷ [])
-    ++ between 7 lowCut (minus 19999) (pos 99999)
-    ++ alarmRows 0
-    ++ alarmRows 1
-    ++ alarmRows 2
-    ++ alarmRows 3
-    ++ between 9 capture (pos 0) (pos 32750)
-    ++ between 10 (λ z. analog z (pos 10000)) (minus 19999) (pos 99999)
-    ++ between 10 (λ z. analog (pos 0) z) (minus 19999) (pos 99999)
-    ++ refuses 10 (analog (pos 100) (pos 100))
     ∷ pairs 1 breaks
+
+-- of a platinum sensor: its places are 1, and neither the points nor their number are judged
+abbrev byPlatinum : List Row
+byPlatinum =
+    oneOf 2 (λ z. places z (pos 0)) (1 ∷ []) (0 ∷ 2 ∷ 3 ∷ 4 ∷ 5 ∷ [])
+    ++ refuses 2 (places (minus 1) (pos 0))
+    ∷ map (λ z. accepts (count z)) (minus 1 ∷ pos 0 ∷ pos 1 ∷ pos 2 ∷ pos 16 ∷ pos 17 ∷ [])
+    ++ accepts (input 0 (minus 100000))
+    ∷ accepts (input 1 (pos 0))
+    ∷ accepts (display 0 (minus 20000))
+    ∷ accepts (display 1 (pos 100000))
+    ∷ []
+
+-- every two of which the first breaks one of the rules from n on, and the second a later one
+unfoldable pub across : ℕ → List Change → List Change → List Row
+across n [] later = []
+across n (first ∷ rest) later = map (λ (second : Change). refuses n (λ c. first (second c))) later ++ across (suc n) rest later
+
+-- the rules that are judged there keep their order, whatever rules 4 and 5 would have found
+abbrev byBoth : List Row
+byBoth = pairs 1 (take 3 breaks) ++ across 1 (take 3 breaks) (drop 5 breaks) ++ pairs 6 (drop 5 breaks)
+
+-- the same row of a meter with a sensor
+abbrev sensed : Change → Row → Row
+sensed before r = record { change = λ c. r .change (platinum (before c)); verdict = r .verdict }
+
+unfoldable pub rows : List Row
+rows =
+    alike
+    ++ byPoints
+    ++ map (sensed (λ c. c)) (alike ++ byPlatinum)
+    ++ map (sensed (λ c. count (pos 17) (input 1 (pos 0) c))) byBoth
 
 -- ---- the claim
 

@@ -5,7 +5,7 @@ use total::Totalizer;
 ghost use mathlib.Core.Path.{_≡_};
 ghost use mathlib.Core.Bool.{true};
 ghost use Rattle.alarm.specs.Alarm.{noSettings};
-ghost use Rattle.config.specs.Config.{placesRule, countRule, pointsRule, totalRule, alarmRule, alarmsRule, analogRule, judged};
+ghost use Rattle.config.specs.Config.{placesRule, inputPlaces, placesRuleBy, pointCount, countRule, pointsRule, totalRule, alarmRule, alarmsRule, analogRule, judged};
 ghost use Rattle.config.specs.Bench.{nothing, benchMeter};
 
 // Decimal places of the input and of the total.
@@ -14,8 +14,15 @@ pub struct Places {
     pub total: i32,
 }
 
-// The scaling points, of which the first so many are in use, and the rounding step.
+// Where the reading of an input comes from: the line between scaling points, or the table of a platinum sensor.
+pub enum Source {
+    Points,
+    Platinum,
+}
+
+// How an input is read: by which source, and to which rounding step; and the scaling points, of which the first so many are in use.
 pub struct Scale {
+    pub source: Source,
     pub step: i32,
     pub count: i32,
     pub inputs: [i32; 16],
@@ -59,13 +66,29 @@ pub enum Verdict {
     Broken(u32),
 }
 
-// Rule 5: the points in use.
+// Rule 4: the number of points, where the reading comes from them.
+fn count_rule(source: Source, count: i32) -> bool
+    ensures { λ r. ⌜ r ≡ pointCount source count ⌝ }
+{
+    match source {
+        Source::Points => exact::is_within(count, 2, 16),
+        Source::Platinum => true,
+    }
+}
+
+// Rule 5: the points in use, where the reading comes from them.
 fn points_rule(s: Scale) -> bool
     requires { ⌜ countRule s ≡ true ⌝ }
     ensures { λ r. ⌜ r ≡ pointsRule s ⌝ }
 {
-    let count = s.count as usize;
-    reading::points_in(&s.inputs, &s.displays, count)
+    let source = s.source;
+    match source {
+        Source::Points => {
+            let count = s.count as usize;
+            reading::points_in(&s.inputs, &s.displays, count)
+        }
+        Source::Platinum => true,
+    }
 }
 
 // The time bases: a second, a minute, an hour, a day.
@@ -100,11 +123,28 @@ fn alarms_rule(setpoints: [i32; 4], alarms: [Settings; 4]) -> bool
     a & b & c & d
 }
 
-// Rule 2: the decimal places.
+// The decimal places that a line can show.
 pub fn places_rule(p: Places) -> bool
     ensures { λ r. ⌜ r ≡ placesRule p ⌝ }
 {
     exact::is_within(p.input, 0, 4) & exact::is_within(p.total, 0, 4)
+}
+
+// Those of the input, by its source: a platinum sensor's readings are tenths of a degree.
+fn input_places(source: Source, places: i32) -> bool
+    ensures { λ r. ⌜ r ≡ inputPlaces source places ⌝ }
+{
+    match source {
+        Source::Points => true,
+        Source::Platinum => exact::is_within(places, 1, 1),
+    }
+}
+
+// Rule 2: the decimal places.
+fn places_rule_by(source: Source, p: Places) -> bool
+    ensures { λ r. ⌜ r ≡ placesRuleBy source p ⌝ }
+{
+    places_rule(p) & input_places(source, p.input)
 }
 
 // Rule 10: the analog displays lie in the display range and differ.
@@ -121,6 +161,7 @@ pub fn judged(c: Config) -> Verdict
     ensures { λ r. ⌜ r ≡ judged c ⌝ }
 {
     let scale = c.scale;
+    let source = scale.source;
     let working = c.working;
     let talking = c.talking;
     let setpoints = c.setpoints;
@@ -131,13 +172,13 @@ pub fn judged(c: Config) -> Verdict
     if !exact::is_within(talking.node, 0, 99) {
         return Verdict::Broken(1);
     }
-    if !places_rule(places) {
+    if !places_rule_by(source, places) {
         return Verdict::Broken(2);
     }
     if !exact::is_step(scale.step) {
         return Verdict::Broken(3);
     }
-    if !exact::is_within(scale.count, 2, 16) {
+    if !count_rule(source, scale.count) {
         return Verdict::Broken(4);
     }
     if !points_rule(scale) {
@@ -181,6 +222,7 @@ pub fn nothing() -> Config
     let settings = no_settings();
     Config {
         scale: Scale {
+            source: Source::Points,
             step: 0,
             count: 0,
             inputs: [0; 16],

@@ -4,9 +4,9 @@ use mathlib.Core.Bool.{Bool, cond, _&&_}
 use mathlib.Core.List.{List}
 use Prim.Native.Nat.{ℕ, _-_}
 use lib.Dec.{eqb}
-use lib.IntN.{ℤ, natAbs}
+use lib.IntN.{ℤ}
 use Rattle.register.specs.Registers.{at}
-use Rattle.reading.specs.Reading.{readingOf}
+use Rattle.source.specs.Source.{readingBy}
 use Rattle.reading.specs.declared.Reading.{Reading}
 use Rattle.alarm.specs.declared.Alarm.{Alarm}
 use Rattle.alarms.specs.Alarms as alarms
@@ -41,9 +41,9 @@ poweredUp setpoints = record { measured = measured.poweredUp; alarms = alarms.po
 
 -- ---- a sample: reading, total, max and min, alarms, analog
 
--- the reading of an input on a scale, by its points. What a meter holds are segments, and they read the same (`segments`)
+-- the reading of an input on a scale, by its source. What a meter holds of it reads the same (`segments`)
 abbrev pub read : Scale → ℤ → Reading
-read s x = readingOf (s .inputs) (s .displays) (natAbs (s .count)) (s .step) x
+read s x = readingBy s x
 
 abbrev pub sampled : Working → Instrument → Reading → Instrument
 sampled w i r =

@@ -126,7 +126,7 @@ module _ (c : Config) (i : Instrument) (r : Receiver) (s : List ℕ) (buffer : L
   unfolding kind
   byte-does b e = kind-does (next r b) (ends b) (drops b) e
 
--- ── an event: a sample is read by segments, and so as document 01 reads it by points ──
+-- ── an event: a sample is read by what the meter holds, and so as its configuration says ──
 
 pub does : (c : Config) → judged c ≡ Accepted → (i : Instrument) (r : Receiver) (s : List ℕ) (e : Event) → sound (meterOf c i r) ≡ true → heard r ≡ hearing s
     → outcomeOf (meterOf c i r) e .meter ≡ nextOf c i r s e

@@ -4,4 +4,5 @@ pub mod Words
 pub mod Said
 pub mod Turns
 pub mod Meaning
+pub mod Sensor
 pub mod Cases

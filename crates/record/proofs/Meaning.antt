@@ -17,7 +17,7 @@ use Rattle.text.specs.declared.Natural.{Natural}
 use Rattle.text.specs.declared.Natural.the-variants as natural
 use Rattle.text.specs.declared.Number.{Number}
 use Rattle.text.specs.declared.Number.the-variants as number
-use Rattle.record.specs.Record.{wordCount, grown, led, words, joined, spaceless, Words, same, sampleOf, keyOf, byteOf, placeOf, oneWord, twoWords, kinds, settingsOf, configurationSaid, shortSaid, isCfg, saidBy, eventOf, readBy, readOf, stored, eventHeard, readHeard}
+use Rattle.record.specs.Record.{wordCount, grown, led, words, joined, spaceless, Words, same, sampleOf, keyOf, byteOf, placeOf, oneWord, twoWords, completed, configurationRead, configurationSaid, shortSaid, isCfg, saidBy, eventOf, readBy, readOf, stored, eventHeard, readHeard}
 use Rattle.record.specs.declared.Event.{Event}
 use Rattle.record.specs.declared.Event.the-variants.{Configuration, Sample, Key, Byte, Bad}
 use Rattle.record.proofs.Words.{words-one, words-some}
@@ -157,8 +157,8 @@ whole-read l e = go (words l) e
     said false u e = never (sym (ap isWhole e))
 
     by : (t : Bool) (k : List ℕ) (ws : List (List ℕ)) → Configuration ≡ cond t (configurationSaid ws) (shortSaid k ws)
-        → length (cond t (settingsOf kinds ws) []) ≡ wordCount
-    by true k ws e = eqb-true (length (settingsOf kinds ws)) wordCount (said (eqb (length ws) wordCount) (eqb (length (settingsOf kinds ws)) wordCount) e)
+        → length (cond t (configurationRead ws) []) ≡ wordCount
+    by true k ws e = eqb-true (length (configurationRead ws)) wordCount (said (eqb (length (completed ws)) wordCount) (eqb (length (configurationRead ws)) wordCount) e)
     by false k ws e = never (sym (ap isWhole e ∙ short-part k ws))
 
     go : (ws : List (List ℕ)) → Configuration ≡ saidBy ws → length (readBy ws) ≡ wordCount

@@ -17,7 +17,7 @@ use Rattle.text.specs.declared.Natural.the-variants as natural
 use Rattle.text.specs.declared.Number.{Number}
 use Rattle.text.specs.declared.Number.the-variants as number
 use Rattle.text.proofs.Lines.{heard-is, heard-long}
-use Rattle.record.specs.Record.{led, grown, words, same, sampleOf, keyOf, byteOf, placeOf, oneWord, twoWords, sampleSaid, keySaid, byteSaid, kinds, settingsOf, configurationSaid, shortSaid, shortBy, isCfg, saidBy, eventOf, readBy, readOf, stored, eventHeard, readHeard}
+use Rattle.record.specs.Record.{led, grown, words, same, sampleOf, keyOf, byteOf, placeOf, oneWord, twoWords, sampleSaid, keySaid, byteSaid, kinds, settingsOf, configurationRead, configurationSaid, shortSaid, shortBy, isCfg, saidBy, eventOf, readBy, readOf, stored, eventHeard, readHeard}
 use Rattle.record.specs.declared.Event.{Event}
 use Rattle.record.specs.declared.Event.the-variants.{Bad}
 use Rattle.record.proofs.Words.{words-one, words-on, natural-space, number-space}
@@ -246,7 +246,7 @@ module _ (l : List ℕ) (y : cfgBytes l ≡ true) where
   unfolding eventOf same
   configuration-is = rw (cfg-is l y)
 
-  pub settings-are : settingsOf kinds (words (drop 4 l)) ≡ readOf l
+  pub settings-are : configurationRead (words (drop 4 l)) ≡ readOf l
   unfolding readOf same
   settings-are = rw (cfg-is l y)
 

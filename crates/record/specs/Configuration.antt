@@ -9,9 +9,12 @@ use Rattle.alarm.specs.declared.Settings.{Settings}
 use Rattle.total.specs.declared.Totalizer.{Totalizer}
 use Rattle.config.specs.declared.Config.{Config}
 use Rattle.config.specs.declared.Scale.{Scale}
+use Rattle.config.specs.declared.Source.{Source}
+use Rattle.config.specs.declared.Source.the-variants.{Points, Platinum}
 use Rattle.config.specs.declared.Talking.{Talking}
 use Rattle.config.specs.declared.Working.{Working}
 use Rattle.register.specs.declared.Print.{Print}
+use Rattle.record.specs.Record.{sensorAt}
 
 -- ---- from settings to a configuration
 
@@ -27,11 +30,16 @@ unfoldable pub inTurn : ℕ → List ℤ → ℕ → List ℤ
 inTurn zero s i = []
 inTurn (suc n) s i = number s i ∷ inTurn n s (i + 2)
 
--- rounding and number of points, then x0 y0 .. x15 y15
-abbrev pub scaleOf : List ℤ → Scale
-scaleOf s = record { step = number s 3; count = number s 4; inputs = inTurn 16 s 5; displays = inTurn 16 s 6 }
+-- the sensor, a yes where it is a platinum one
+abbrev pub sourceOf : List ℤ → Source
+sourceOf s = cond (yes s sensorAt) Platinum Points
 
--- factor, base, low cut; batch stands among the last six
+-- rounding and number of points, then x0 y0 .. x15 y15; the sensor stands last of all
+abbrev pub scaleOf : List ℤ → Scale
+scaleOf s =
+    record { source = sourceOf s; step = number s 3; count = number s 4; inputs = inTurn 16 s 5; displays = inTurn 16 s 6 }
+
+-- factor, base, low cut; batch stands among the last seven
 abbrev pub totalizerOf : List ℤ → Totalizer
 totalizerOf s = record { batch = yes s 67; «low_cut» = number s 39; factor = number s 37; «time_base» = number s 38 }
 
@@ -59,7 +67,7 @@ workingOf s =
 abbrev pub printOf : List ℤ → Print
 printOf s = record { input = yes s 69; extremes = yes s 70; total = yes s 71; setpoints = yes s 72 }
 
--- node and places stand first, the rest last
+-- node and places stand first, the rest before the sensor
 abbrev pub talkingOf : List ℤ → Talking
 talkingOf s =
     record { node = number s 0; places = record { input = number s 1; total = number s 2 }; abbreviated = yes s 68; print = printOf s }
@@ -94,6 +102,10 @@ alarmsIn (x ∷ xs) (a ∷ ss) = alarmIn x a ++ alarmsIn xs ss
 abbrev pub printIn : Print → List ℤ
 printIn p = digit (p .input) ∷ digit (p .extremes) ∷ digit (p .total) ∷ digit (p .setpoints) ∷ []
 
+abbrev pub sensorIn : Source → ℤ
+sensorIn Points = pos 0
+sensorIn Platinum = pos 1
+
 unfoldable pub settingsIn : Config → List ℤ
 settingsIn c =
     (c .talking .node ∷ c .talking .places .input ∷ c .talking .places .total ∷ c .scale .step ∷ c .scale .count ∷ [])
@@ -101,4 +113,4 @@ settingsIn c =
     ++ ((c .working .totalizer .factor ∷ c .working .totalizer .«time_base» ∷ c .working .totalizer .«low_cut» ∷ [])
     ++ (alarmsIn (c .setpoints) (c .working .alarms)
     ++ ((c .working .capture ∷ c .working .analog .low ∷ c .working .analog .high ∷ digit (c .working .totalizer .batch) ∷ digit (c .talking .abbreviated) ∷ [])
-    ++ printIn (c .talking .print)))))
+    ++ (printIn (c .talking .print) ++ (sensorIn (c .scale .source) ∷ []))))))

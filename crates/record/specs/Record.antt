@@ -107,17 +107,21 @@ byteSaid ws = twoWords (λ (b place : List ℕ). byteOf (naturalOf 3 b) (placeOf
 
 -- how many words a configuration has
 abbrev pub wordCount : ℕ
-wordCount = 73
+wordCount = 74
+
+-- the place of the last, the sensor, which may be left out: a line without it has so many
+abbrev pub sensorAt : ℕ
+sensorAt = 73
 
 -- an alarm's six words: setpoint, hysteresis, on, off are numbers, low and latched a yes or no
 abbrev pub alarmKinds : List Bool
 alarmKinds = false ∷ false ∷ false ∷ false ∷ true ∷ true ∷ []
 
 -- which of them are a yes or no: node, places, rounding, points, factor, base and low cut are none; four alarms; capture and
--- analog are none; batch, abbreviated and the four of a print are
+-- analog are none; batch, abbreviated, the four of a print and the sensor are
 unfoldable pub kinds : List Bool
 kinds =
-    replicate 40 false ++ (alarmKinds ++ (alarmKinds ++ (alarmKinds ++ (alarmKinds ++ (replicate 3 false ++ replicate 6 true)))))
+    replicate 40 false ++ (alarmKinds ++ (alarmKinds ++ (alarmKinds ++ (alarmKinds ++ (replicate 3 false ++ replicate 7 true)))))
 
 -- a yes is 1, a no is 0
 abbrev pub asNumber : Flag → Number
@@ -139,9 +143,20 @@ settingsOf [] ws = []
 settingsOf (k ∷ ks) [] = []
 settingsOf (k ∷ ks) (w ∷ ws) = onto (settingOf k w) (settingsOf ks ws)
 
+-- what so many words leave out: a line without the sensor says what it says with a 0 there, so that a file from before there was one
+-- means what it meant
+abbrev pub leftOut : ℕ → List (List ℕ)
+leftOut n = cond (eqb n sensorAt) (ascii "0" ∷ []) []
+
+abbrev pub completed : List (List ℕ) → List (List ℕ)
+completed ws = ws ++ leftOut (length ws)
+
+abbrev pub configurationRead : List (List ℕ) → List ℤ
+configurationRead ws = settingsOf kinds (completed ws)
+
 -- as many words, each of them a setting
 unfoldable pub configurationSaid : List (List ℕ) → Event
-configurationSaid ws = cond (eqb (length ws) wordCount && eqb (length (settingsOf kinds ws)) wordCount) Configuration Bad
+configurationSaid ws = cond (eqb (length (completed ws)) wordCount && eqb (length (configurationRead ws)) wordCount) Configuration Bad
 
 -- ---- a line
 
@@ -168,7 +183,7 @@ eventOf l = saidBy (words l)
 -- the settings of a line: none, where it is no `CFG`
 abbrev pub readBy : List (List ℕ) → List ℤ
 readBy [] = []
-readBy (k ∷ ws) = cond (isCfg k) (settingsOf kinds ws) []
+readBy (k ∷ ws) = cond (isCfg k) (configurationRead ws) []
 
 unfoldable pub readOf : List ℕ → List ℤ
 readOf l = readBy (words l)

@@ -1,29 +1,32 @@
 // What a line of a recorded history says.
 //
-//   CFG ..          a configuration: `WORDS` words, in the order that `config_of` says
+//   CFG ..          a configuration: `WORDS` words, in the order that `config_of` says, of which the last may be left out
 //   S n             a sample
 //   K n place       a key
 //   B byte place    a received byte
 //
 // One space stands between two words, and nothing else. Any other line is bad: a number past its width, a byte past 255, a yes/no
-// that is neither 0 nor 1, a word too many or too few.
+// that is neither 0 nor 1, a word too many or too few. The last word of a configuration is the sensor, 0 points or 1 platinum: a line
+// without it says what it says with a 0 there, so that files from before there was a sensor mean what they meant.
 //
 // The format grows without breaking old files: a new setting comes as a further word at the end of `CFG`, where a line without it has
 // the value that leaves the meter as it was, and anything else comes as a line with a letter of its own.
 ghost use mathlib.Core.Path.{_≡_};
-ghost use mathlib.Core.Bool.{false, cond};
+ghost use mathlib.Core.Bool.{false, cond, _||_};
 ghost use mathlib.Core.List.{[], _∷_};
 ghost use Prim.Native.Nat.{_+_, _≤_, _<_};
 ghost use lib.Dec.{eqb};
-ghost use lib.ListN.{length, getD};
+ghost use lib.IntN.{pos};
+ghost use lib.ListN.{length, getD, set};
 ghost use Rattle.text.specs.Line.{heard};
-ghost use Rattle.record.specs.Record.{wordCount, words, keyOf, byteOf, placeOf, sampleSaid, keySaid, byteSaid, asNumber, settingOf, kinds, settingsOf, configurationSaid, shortSaid, shortBy, eventOf, readOf, stored, eventHeard, readHeard};
-ghost use Rattle.record.specs.Configuration.{inTurn, scaleOf, totalizerOf, alarmOf, workingOf, printOf, talkingOf, configOf};
+ghost use Rattle.record.specs.Record.{wordCount, sensorAt, words, keyOf, byteOf, placeOf, sampleSaid, keySaid, byteSaid, asNumber, settingOf, kinds, configurationSaid, configurationRead, shortSaid, shortBy, eventOf, readOf, stored, eventHeard, readHeard};
+ghost use Rattle.record.specs.Configuration.{inTurn, sourceOf, scaleOf, totalizerOf, alarmOf, workingOf, printOf, talkingOf, configOf};
 use alarm::Settings;
 use config::Analog;
 use config::Config;
 use config::Places;
 use config::Scale;
+use config::Source;
 use config::Talking;
 use config::Working;
 use register::Print;
@@ -34,7 +37,10 @@ use text::Number;
 use total::Totalizer;
 
 // How many words a configuration has.
-pub const WORDS: usize = 73;
+pub const WORDS: usize = 74;
+
+// The place of the last, the sensor: a line without it has so many.
+const SENSOR: usize = 73;
 
 // A configuration's words are in the array that `parse` is lent.
 pub enum Event {
@@ -112,7 +118,7 @@ fn byte(s: &[u8]) -> Event
     }
 }
 
-// Whether word i of a configuration is a yes/no: the last two of each alarm's six, and the last six of all.
+// Whether word i of a configuration is a yes/no: the last two of each alarm's six, and the last seven of all.
 fn is_flag(i: usize) -> bool
     requires { ⌜ i < wordCount ⌝ }
     ensures { λ r. ⌜ r ≡ getD kinds i false ⌝ }
@@ -149,7 +155,7 @@ fn setting(i: usize, s: &[u8]) -> Number
 // The words of a configuration, as many as there are places for them.
 fn configuration(s: &[u8], settings: &mut [i32; WORDS]) -> Event
     ensures { λ r. ⌜ r ≡ configurationSaid (words (now (s .entry))) ⌝ }
-    ensures { λ _. ⌜ now (settings .exit) ≡ stored 0 (now (settings .entry)) (settingsOf kinds (words (now (s .entry)))) ⌝ }
+    ensures { λ _. ⌜ now (settings .exit) ≡ stored 0 (now (settings .entry)) (configurationRead (words (now (s .entry)))) ⌝ }
 {
     let mut at = 0;
     let mut i = 0;
@@ -162,17 +168,22 @@ fn configuration(s: &[u8], settings: &mut [i32; WORDS]) -> Event
         settings[i] = v;
         i += 1;
         if e == s.len() {
-            return ended(i);
+            return ended(i, settings);
         }
         at = e + 1;
     }
     Event::Bad
 }
 
-// A line that ends after so many words.
-fn ended(count: usize) -> Event
-    ensures { λ r. ⌜ r ≡ cond (eqb count wordCount) Event.Configuration Event.Bad ⌝ }
+// A line that ends after so many words. Where it ends before the sensor, the array may still hold that of an earlier line.
+fn ended(count: usize, settings: &mut [i32; WORDS]) -> Event
+    ensures { λ r. ⌜ r ≡ cond (eqb count sensorAt || eqb count wordCount) Event.Configuration Event.Bad ⌝ }
+    ensures { λ _. ⌜ now (settings .exit) ≡ cond (eqb count sensorAt) (set (now (settings .entry)) sensorAt (pos 0)) (now (settings .entry)) ⌝ }
 {
+    if count == SENSOR {
+        settings[SENSOR] = 0;
+        return Event::Configuration;
+    }
     if count == WORDS {
         Event::Configuration
     } else {
@@ -259,12 +270,25 @@ fn alarm_at(s: &[i32; WORDS], at: usize) -> Settings
     }
 }
 
+// 1 is a platinum sensor.
+fn source_of(s: &[i32; WORDS]) -> Source
+    ensures { λ r. ⌜ r ≡ sourceOf (now (s .entry)) ⌝ }
+{
+    if s[SENSOR] == 1 {
+        Source::Platinum
+    } else {
+        Source::Points
+    }
+}
+
 fn scale_of(s: &[i32; WORDS]) -> Scale
     ensures { λ r. ⌜ r ≡ scaleOf (now (s .entry)) ⌝ }
 {
+    let source = source_of(s);
     let inputs = in_turn(s, 5);
     let displays = in_turn(s, 6);
     Scale {
+        source,
         step: s[3],
         count: s[4],
         inputs,
@@ -334,7 +358,7 @@ fn sized(s: [i32; WORDS])
 {}
 
 // The configuration of its words: node, places of input and total, rounding, number of points, 16 points, factor, time base, low cut,
-// four alarms, capture, analog low and high, batch, abbreviated, and what a block prints.
+// four alarms, capture, analog low and high, batch, abbreviated, what a block prints, and the sensor.
 pub fn config_of(s: &[i32; WORDS]) -> Config
     ensures { λ r. ⌜ r ≡ configOf (now (s .entry)) ⌝ }
     ensures { λ _. ⌜ length (now (s .entry)) ≡ wordCount ⌝ }

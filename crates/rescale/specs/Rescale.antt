@@ -1,5 +1,5 @@
 -- What a line does to the program, as the code holds it, with the scale as its segments (`heardBy`); and what is printed of a whole stream,
--- which is said by the points of the configuration and knows no state of the program (`printedOf`). The first is the contract of the
+-- which is said by the configuration and knows no state of the program (`printedOf`). The first is the contract of the
 -- functions that read the stream, the second that of the program; proofs/Stream joins them.
 use Prim.Native.Nat.{ℕ}
 use mathlib.Core.Path.{_≡_}

@@ -71,6 +71,7 @@ fn later(block: &[u8], line: &mut [u8; KEPT], buf: &mut [u8], s: State) -> State
 {
     let mode = s.mode;
     let scale = s.scale;
+    let source = scale.source;
     let last = scale.last as usize;
     let step = scale.step;
     let inputs = scale.inputs;
@@ -88,6 +89,7 @@ fn later(block: &[u8], line: &mut [u8; KEPT], buf: &mut [u8], s: State) -> State
                 mode,
                 &*line,
                 f.len,
+                source,
                 &inputs,
                 &displays,
                 &rises,
@@ -234,7 +236,7 @@ fn begun() -> State
     }
 }
 
-// The whole of standard input, whatever it is: what waits is what is printed of all its lines, by the points of the configuration.
+// The whole of standard input, whatever it is: what waits is what is printed of all its lines, by the configuration.
 fn rescaled(block: &mut [u8], buf: &mut [u8]) -> Out
     ensures { λ r. ⌜ ((stream : List ℕ) × (waiting (r .at) (now (buf .exit)) ≡ printedOf (now (buf .entry)) stream)) ⌝ }
 {

@@ -1,4 +1,4 @@
--- What the code holds of the first line tells every later one what the definition by points does. Assumes nothing.
+-- What the code holds of the first line tells every later one what the definition by its configuration does. Assumes nothing.
 use mathlib.Core.Path.{_≡_, refl, ap}
 use mathlib.Core.Bool.{true, false}
 use Rattle.config.specs.Config.{judged}
@@ -6,6 +6,7 @@ use Rattle.config.specs.declared.Config.{Config}
 use Rattle.config.specs.declared.Verdict.{Verdict}
 use Rattle.config.specs.declared.Verdict.the-variants.{Accepted, Broken}
 use Rattle.config.proofs.Acceptance.{scale-accepted}
+use Rattle.source.specs.Source.{readingBy}
 use Rattle.record.specs.Record.{eventHeard, readHeard}
 use Rattle.record.specs.Configuration.{configOf}
 use Rattle.record.specs.declared.Event.{Event}
@@ -15,7 +16,7 @@ use Rattle.segments.proofs.ByPoints.{reads, passes}
 use Rattle.text.specs.Line.{Heard}
 use Rattle.text.specs.declared.Number.{Number}
 use Rattle.text.specs.declared.Number.the-variants as number
-use Rattle.rescaling.specs.Rescaling.{Start, byVerdict, startBy, startOf, firstTold, byPoints, inputHeard, readBy, laterTold}
+use Rattle.rescaling.specs.Rescaling.{Start, byVerdict, startBy, startOf, firstTold, inputHeard, readBy, laterTold}
 use Rattle.rescaling.specs.Held.{openedAs, opened, awaits, saidBy, sound}
 use Rattle.rescaling.specs.Meaning.{Agrees}
 use Rattle.rescaling.specs.declared.Said.the-variants.{Read}
@@ -27,8 +28,8 @@ record Holds (start : Start) : Type 0 where
   once : awaits (openedAs start .mode) ≡ false
   reads : sound (openedAs start .mode) (openedAs start .scale) ≡ true
 
--- an accepted scale reads by its segments as by its points
-same-reading : (c : Config) → judged c ≡ Accepted → (n : Number) → readBy (read (segmentsOf (c .scale))) n ≡ readBy (byPoints (c .scale)) n
+-- an accepted scale reads as it is held as by its source
+same-reading : (c : Config) → judged c ≡ Accepted → (n : Number) → readBy (read (segmentsOf (c .scale))) n ≡ readBy (readingBy (c .scale)) n
 same-reading c a (number.Is x) = ap Read (reads (c .scale) (scale-accepted c a) x)
 same-reading c a number.Not = refl
 

@@ -6,6 +6,8 @@ use Prim.Native.String.{String}
 use Rattle.exact.specs.Exact.{halfUp, nearest, toStep}
 use Rattle.exact.specs.Tables.{among}
 use Rattle.reading.specs.Reading as reading
+use Rattle.platinum.specs.Table.{resistances}
+use Rattle.platinum.specs.Platinum.{tenthsAt, sensed}
 use Rattle.config.specs.Config.{alarmRule, alarmsRule, rules, firstBroken, judged}
 use Rattle.record.specs.Record.{words, same, oneWord, twoWords, kinds, settingsOf, configurationSaid, shortSaid, eventOf, readOf, eventHeard, readHeard}
 use Rattle.record.specs.Configuration.{inTurn, configOf}
@@ -47,6 +49,13 @@ fives = ascii "CFG 17 1 0 5 5" ++ rest
 abbrev threes : List ℕ
 threes = ascii "CFG 17 1 0 3 5" ++ rest
 
+-- a platinum sensor with the same rounding and a number of points that is not judged; and with places that rule 2 refuses
+abbrev sensor : List ℕ
+sensor = ascii "CFG 17 1 0 5 99" ++ (rest ++ ascii " 1")
+
+abbrev placeless : List ℕ
+placeless = ascii "CFG 17 0 0 5 99" ++ (rest ++ ascii " 1")
+
 abbrev pub rows : List Row
 rows =
     row [] []
@@ -55,10 +64,13 @@ rows =
     ∷ row (fives ∷ [] ∷ ascii "S 1000" ∷ ascii "1000 " ∷ ascii "2147483648" ∷ fives ∷ threes ∷ ascii "1000" ∷ [])
     ("0 0" ∷ "?" ∷ "?" ∷ "?" ∷ "?" ∷ "?" ∷ "?" ∷ "300" ∷ [])
     ∷ row (threes ∷ ascii "1000" ∷ ascii "x" ∷ fives ∷ []) ("11 3" ∷ [])
+    ∷ row (sensor ∷ ascii "18519" ∷ ascii "18520" ∷ ascii "18735" ∷ ascii "18736" ∷ ascii "390482" ∷ ascii "-18520" ∷ ascii "x" ∷ [])
+    ("0 0" ∷ "UL" ∷ "-2000" ∷ "-1995" ∷ "-1995" ∷ "OL" ∷ "UL" ∷ "?" ∷ [])
+    ∷ row (placeless ∷ ascii "18520" ∷ []) ("11 2" ∷ [])
     ∷ row (ascii "1000" ∷ fives ∷ ascii "1000" ∷ []) ("?" ∷ "?" ∷ "?" ∷ [])
     ∷ row (ascii "S 1000" ∷ fives ∷ threes ∷ []) ("?" ∷ "?" ∷ "?" ∷ [])
     ∷ []
 
 pub cases : map (λ (r : Row). whole (allShown (r .lines))) rows ≡ map (λ (r : Row). r .printed) rows
-unfolding allShown laterLines shownOf readingLine signed numeral fewest startOf inputHeard kept eventHeard readHeard eventOf readOf words same oneWord twoWords kinds settingsOf configurationSaid shortSaid numberOf signedOf naturalOf digits value flagOf configOf inTurn judged firstBroken rules alarmRule alarmsRule among halfUp nearest toStep reading.firstFrom reading.segment reading.onLine reading.judged reading.displayed reading.readingOf reading.upTo reading.pointsIn
+unfolding allShown laterLines shownOf readingLine signed numeral fewest startOf inputHeard kept eventHeard readHeard eventOf readOf words same oneWord twoWords kinds settingsOf configurationSaid shortSaid numberOf signedOf naturalOf digits value flagOf configOf inTurn judged firstBroken rules alarmRule alarmsRule among halfUp nearest toStep reading.firstFrom reading.segment reading.onLine reading.judged reading.displayed reading.readingOf reading.upTo reading.pointsIn resistances tenthsAt sensed
 cases = refl

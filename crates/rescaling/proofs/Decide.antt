@@ -4,7 +4,7 @@ use mathlib.Core.List.{List, [], _∷_, _++_}
 use mathlib.Core.Logic.{_≢_}
 use Prim.Native.Nat.{ℕ}
 use native.Mathlib.Omega.{arith}
-use lib.IntN.{ℤ, pos}
+use lib.IntN.{ℤ, pos, natAbs}
 use lib.Signed.{ltZ}
 use Rattle.exact.specs.Sign.{minus}
 use Rattle.exact.proofs.Z.{either}
@@ -15,6 +15,8 @@ use Rattle.config.specs.Config.{judged}
 use Rattle.config.specs.declared.Scale.{Scale}
 use Rattle.config.specs.declared.Verdict.{Verdict}
 use Rattle.config.specs.declared.Verdict.the-variants.{Accepted, Broken}
+use Rattle.source.specs.Source.{readingBy}
+use Rattle.source.proofs.Laws.{by-source}
 use Rattle.record.specs.Record.{eventHeard}
 use Rattle.record.specs.declared.Event.{Event}
 use Rattle.record.specs.declared.Event.the-variants.{Configuration, Sample, Key, Byte, Bad}
@@ -22,13 +24,13 @@ use Rattle.register.specs.Bytes.{ascii}
 use Rattle.text.specs.Line.{kept}
 use Rattle.text.specs.declared.Number.{Number}
 use Rattle.text.specs.declared.Number.the-variants as number
-use Rattle.rescaling.specs.Rescaling.{Start, scaled, refused, unconfigured, byVerdict, startOf, byPoints, inputHeard, firstTold, readBy}
+use Rattle.rescaling.specs.Rescaling.{Start, scaled, refused, unconfigured, byVerdict, startOf, inputHeard, firstTold, readBy}
 use Rattle.rescaling.specs.Show.{ended, shownOf, laterLines, allShown}
 use Rattle.rescaling.specs.Meaning.{configIn, readingAt, inputLine, each, Decides, Readings}
 
 -- ---- later lines
 
-read-line : (s : Scale) (n : Number) → shownOf (readBy (byPoints s) n) ≡ readingAt s n
+read-line : (s : Scale) (n : Number) → shownOf (readBy (readingBy s) n) ≡ readingAt s n
 unfolding shownOf
 read-line s (number.Is x) = refl
 read-line s number.Not = refl
@@ -92,11 +94,17 @@ unfolding scaling.judged some
 judged-some v =
     either (λ (r : Reading). some r ≡ 1) (ltZ (pos 99999) v) refl (either (λ (r : Reading). some r ≡ 1) (ltZ v (minus 19999)) refl refl)
 
-reading-some : (s : Scale) (x : ℤ) → some (byPoints s x) ≡ 1
+points-some : (inputs displays : List ℤ) (count : ℕ) (step x : ℤ) → some (scaling.readingOf inputs displays count step x) ≡ 1
 unfolding scaling.readingOf scaling.displayed some
-reading-some s x =
+points-some inputs displays count step x =
     either (λ (r : Reading). some r ≡ 1) (ltZ (pos 99999) x) refl
     (either (λ (r : Reading). some r ≡ 1) (ltZ x (minus 99999)) refl (judged-some _))
+
+reading-some : (s : Scale) (x : ℤ) → some (readingBy s x) ≡ 1
+unfolding some
+reading-some s x =
+    by-source (λ (r : Reading). some r ≡ 1) (s .source) (scaling.readingOf (s .inputs) (s .displays) (natAbs (s .count)) (s .step)) (s .step) x
+    (points-some (s .inputs) (s .displays) (natAbs (s .count)) (s .step) x) refl refl judged-some
 
 pub readings : Readings
 unfolding some

@@ -1,11 +1,12 @@
 -- What the code holds of the first line, which has the scale as its segments, and what a later line is told by them. From segments the
--- points cannot be told, so this is a definition of its own; that it tells every line what the one by points does is claimed in Meaning
+-- points cannot be told, so this is a definition of its own; that it tells every line what the one by the configuration does is claimed in Meaning
 -- (`Agrees`).
 use Prim.Native.Nat.{ℕ}
 use mathlib.Core.Bool.{Bool, true, false}
 use mathlib.Core.List.{List}
 use lib.IntN.{ℤ}
 use Rattle.answer.specs.declared.Answer.the-variants.{Done, Refused}
+use Rattle.config.specs.declared.Source.{Source}
 use Rattle.segments.specs.Segments.{noSegments, segmentsOf, read, canScale}
 use Rattle.segments.specs.declared.Segments.{Segments}
 use Rattle.text.specs.Line.{Heard}
@@ -40,9 +41,9 @@ awaits Unconfigured = false
 -- ---- a later line
 
 -- a scale by its parts, as they are lent
-abbrev pub lists : (step : ℤ) (last : ℕ) (inputs displays rises runs : List ℤ) → Segments
-lists step last inputs displays rises runs =
-    record { step = step; last = last; inputs = inputs; displays = displays; rises = rises; runs = runs }
+abbrev pub lists : Source → (step : ℤ) (last : ℕ) (inputs displays rises runs : List ℤ) → Segments
+lists source step last inputs displays rises runs =
+    record { source = source; step = step; last = last; inputs = inputs; displays = displays; rises = rises; runs = runs }
 
 abbrev pub saidBy : Mode → Segments → Heard → Said
 saidBy Awaiting s h = Unknown

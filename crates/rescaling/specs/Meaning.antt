@@ -1,5 +1,5 @@
 -- What is claimed of the definitions: how the first line decides for all that is printed, line by line and with no state between them; and
--- that what the code holds, segments, tells every line what the points tell.
+-- that what the code holds, segments, tells every line what the configuration tells.
 use Prim.Native.Nat.{ℕ}
 use mathlib.Core.Path.{_≡_}
 use mathlib.Core.Bool.{true, false}
@@ -11,6 +11,7 @@ use Rattle.config.specs.Config.{judged}
 use Rattle.config.specs.declared.Config.{Config}
 use Rattle.config.specs.declared.Scale.{Scale}
 use Rattle.config.specs.declared.Verdict.the-variants.{Accepted, Broken}
+use Rattle.source.specs.Source.{readingBy}
 use Rattle.record.specs.Record.{eventHeard, readHeard}
 use Rattle.record.specs.Configuration.{configOf}
 use Rattle.record.specs.declared.Event.the-variants.{Configuration}
@@ -19,7 +20,7 @@ use Rattle.text.specs.Line.{Heard, kept}
 use Rattle.text.specs.Numeral.{numeral}
 use Rattle.text.specs.declared.Number.{Number}
 use Rattle.text.specs.declared.Number.the-variants as number
-use Rattle.rescaling.specs.Rescaling.{startOf, firstTold, byPoints, inputHeard, laterTold}
+use Rattle.rescaling.specs.Rescaling.{startOf, firstTold, inputHeard, laterTold}
 use Rattle.rescaling.specs.Show.{ended, readingLine, allShown}
 use Rattle.rescaling.specs.Held.{opened, awaits, saidBy, sound}
 
@@ -33,9 +34,9 @@ configIn l = configOf (readHeard (kept l))
 abbrev pub twoNumbers : List ℕ → List ℕ → List (List ℕ)
 twoNumbers a b = a ∷ ascii " " ∷ b ∷ (10 ∷ []) ∷ []
 
--- the reading by the points of an input, and `?` where the line is none
+-- the reading of an input by the configuration's source, and `?` where the line is none
 abbrev pub readingAt : Scale → Number → List (List ℕ)
-readingAt s (number.Is x) = readingLine (byPoints s x)
+readingAt s (number.Is x) = readingLine (readingBy s x)
 readingAt s number.Not = ended (ascii "?")
 
 abbrev pub inputLine : Scale → List ℕ → List (List ℕ)
@@ -47,7 +48,7 @@ each f [] = []
 each f (l ∷ ls) = f l ++ each f ls
 
 pub record Decides (first : List ℕ) (rest : List (List ℕ)) : Type 0 where
-  -- a configuration that is accepted: `0 0`, and then for each line document 01's reading
+  -- a configuration that is accepted: `0 0`, and then for each line its reading
   pub accepted : eventHeard (kept first) ≡ Configuration → judged (configIn first) ≡ Accepted
       → allShown (first ∷ rest) ≡ twoNumbers (numeral 0) (numeral 0) ++ each (inputLine (configIn first .scale)) rest
   -- one that is refused: `11` and the number of the first rule that it breaks, and not a byte more, whatever comes behind it
@@ -58,7 +59,7 @@ pub record Decides (first : List ℕ) (rest : List (List ℕ)) : Type 0 where
 
 -- no input reads Nothing, so that `--` is never printed
 abbrev pub Readings : Type 0
-Readings = (s : Scale) (x : ℤ) → byPoints s x ≢ Nothing
+Readings = (s : Scale) (x : ℤ) → readingBy s x ≢ Nothing
 
 -- ---- what the code holds
 

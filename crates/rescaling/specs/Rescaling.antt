@@ -1,15 +1,15 @@
--- What the program that rescales is to tell each line. The first one decides for all the others, and an input is read as document 01 has
--- it, by the points of the configuration.
-use lib.IntN.{ℤ, natAbs}
+-- What the program that rescales is to tell each line. The first one decides for all the others, and an input is read by the source that
+-- its configuration names.
+use lib.IntN.{ℤ}
 use Prim.Native.Nat.{ℕ}
 use Rattle.answer.specs.declared.Answer.the-variants.{Done, Refused}
-use Rattle.reading.specs.Reading.{readingOf}
 use Rattle.reading.specs.declared.Reading.{Reading}
 use Rattle.config.specs.Config.{judged}
 use Rattle.config.specs.declared.Config.{Config}
 use Rattle.config.specs.declared.Scale.{Scale}
 use Rattle.config.specs.declared.Verdict.{Verdict}
 use Rattle.config.specs.declared.Verdict.the-variants.{Accepted, Broken}
+use Rattle.source.specs.Source.{readingBy}
 use Rattle.record.specs.Record.{eventHeard, readHeard}
 use Rattle.record.specs.Configuration.{configOf}
 use Rattle.record.specs.declared.Event.{Event}
@@ -52,22 +52,18 @@ firstTold unconfigured = Unknown
 
 -- ---- every later line is told something by itself
 
--- the reading of an input, as document 01 has it
-abbrev pub byPoints : Scale → ℤ → Reading
-byPoints s x = readingOf (s .inputs) (s .displays) (natAbs (s .count)) (s .step) x
-
 -- the input that a line is: one number and nothing else
 unfoldable pub inputHeard : Heard → Number
 inputHeard (bytes l) = numberOf l
 inputHeard long = number.Not
 
--- an input is told its reading, by the points or another way, and any other line that it is not known
+-- an input is told its reading, by the configuration or by what is held of it, and any other line that it is not known
 abbrev pub readBy : (ℤ → Reading) → Number → Said
 readBy reads (number.Is x) = Read (reads x)
 readBy reads number.Not = Unknown
 
 -- behind a configuration that is refused no line is told anything, and where there was none no line is known
 abbrev pub laterTold : Start → Heard → Said
-laterTold (scaled s) h = readBy (byPoints s) (inputHeard h)
+laterTold (scaled s) h = readBy (readingBy s) (inputHeard h)
 laterTold (refused rule) h = Silence
 laterTold unconfigured h = Unknown

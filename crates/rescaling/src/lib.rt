@@ -9,6 +9,7 @@ ghost use Rattle.rescaling.specs.Held.{openedAs, opened, without, awaits
 ghost use Rattle.rescaling.specs.Show.{numberLine, answerLine, readingLine, shownOf};
 use answer::Answer;
 use config::Config;
+use config::Source;
 use config::Verdict;
 use reading::Reading;
 use record::Event;
@@ -121,6 +122,7 @@ pub fn told<'a>(
     mode: Mode,
     line: &[u8; KEPT],
     len: usize,
+    source: Source,
     inputs: &'a [i32; 15],
     displays: &'a [i32; 15],
     rises: &'a [i32; 15],
@@ -128,8 +130,8 @@ pub fn told<'a>(
     last: usize,
     step: i32,
 ) -> Said
-    requires { ⌜ sound mode (lists step last (now inputs) (now displays) (now rises) (now runs)) ≡ true ⌝ }
-    ensures { λ r. ⌜ r ≡ saidBy mode (lists step last (now (inputs .entry)) (now (displays .entry)) (now (rises .entry)) (now (runs .entry))) (heard (now (line .entry)) len) ⌝ }
+    requires { ⌜ sound mode (lists source step last (now inputs) (now displays) (now rises) (now runs)) ≡ true ⌝ }
+    ensures { λ r. ⌜ r ≡ saidBy mode (lists source step last (now (inputs .entry)) (now (displays .entry)) (now (rises .entry)) (now (runs .entry))) (heard (now (line .entry)) len) ⌝ }
 {
     match mode {
         Mode::Awaiting => Said::Unknown,
@@ -137,6 +139,7 @@ pub fn told<'a>(
             let n = input(line, len);
             match n {
                 Number::Is(x) => Said::Read(scaling::reading_of(
+                    source,
                     inputs,
                     displays,
                     rises,

@@ -1,5 +1,7 @@
-// The segments of a scale, made once of the points of an accepted configuration, and an input read by its segment alone.
+// The segments of a scale, made once of the points of an accepted configuration, and an input read by its segment alone, or by the table
+// of a platinum sensor where that is the source.
 use config::Scale;
+use config::Source;
 use reading::Reading;
 use segments::Segments;
 ghost use mathlib.Core.Path.{_≡_};
@@ -8,20 +10,29 @@ ghost use Prim.Native.Nat.{ℕ, _-_, _≤_, _<_};
 ghost use lib.IntN.{pos, natAbs};
 ghost use Rattle.exact.specs.Sign.{isNeg};
 ghost use Rattle.reading.specs.Reading.{point, firstFrom, Scalable};
-ghost use Rattle.segments.specs.Segments.{startOf, differenceOf, held, noSegments, segmentsOf, along, readOn, read, segmentIn, segmentsIn, tested, canScale, Line, Readable};
+ghost use Rattle.config.specs.Accepted.{Measurable};
+ghost use Rattle.segments.specs.Segments.{startOf, differenceOf, held, ofPoints, unused, noSegments, segmentsOf, along, readOn, readBy, read, segmentIn, segmentsIn, tested, canScale, Line, Readable};
 
-// No segment in use and no step to round to: nothing can be read by it.
-pub fn none() -> Segments
-    ensures { λ r. ⌜ r ≡ noSegments ⌝ }
+// No segment in use.
+fn unused(source: Source, step: i32) -> Segments
+    ensures { λ r. ⌜ r ≡ unused source step ⌝ }
 {
     Segments {
-        step: 0,
+        source,
+        step,
         last: 0,
         inputs: [0; 15],
         displays: [0; 15],
         rises: [0; 15],
         runs: [1; 15],
     }
+}
+
+// And no step to round to: nothing can be read by it.
+pub fn none() -> Segments
+    ensures { λ r. ⌜ r ≡ noSegments ⌝ }
+{
+    unused(Source::Points, 0)
 }
 
 // Where each segment of so many points starts, in inputs or in displays: segment k starts at point k.
@@ -54,10 +65,10 @@ fn differences(points: &[i32; 16], count: usize, unused: i32) -> [i32; 15]
 }
 
 // The segments of a configuration's points.
-pub fn made(s: Scale) -> Segments
+fn of_points(s: Scale) -> Segments
     requires { ⌜ isNeg (s .count) ≡ false ⌝ }
     requires { ⌜ Scalable (s .inputs) (s .displays) (natAbs (s .count)) (s .step) ⌝ }
-    ensures { λ r. ⌜ r ≡ segmentsOf s ⌝ }
+    ensures { λ r. ⌜ r ≡ ofPoints s ⌝ }
 {
     let step = s.step;
     let count = s.count as usize;
@@ -66,12 +77,25 @@ pub fn made(s: Scale) -> Segments
     let rises = differences(&s.displays, count, 0);
     let runs = differences(&s.inputs, count, 1);
     Segments {
+        source: Source::Points,
         step,
-        last: (count - 2) as u32,
+        last: (count - 2) as u8,
         inputs,
         displays,
         rises,
         runs,
+    }
+}
+
+// What a meter holds of a configuration's scale. Of a platinum sensor that is its step, and nothing of the points.
+pub fn made(s: Scale) -> Segments
+    requires { ⌜ Measurable s ⌝ }
+    ensures { λ r. ⌜ r ≡ segmentsOf s ⌝ }
+{
+    let source = s.source;
+    match source {
+        Source::Points => of_points(s),
+        Source::Platinum => unused(source, s.step),
     }
 }
 
@@ -106,7 +130,7 @@ fn along(input: i32, display: i32, rise: i32, run: i32, x: i32) -> i64
 }
 
 // The reading of an input by the segments up to the last.
-pub fn reading_of<'a>(
+fn on_segments<'a>(
     inputs: &'a [i32; 15],
     displays: &'a [i32; 15],
     rises: &'a [i32; 15],
@@ -129,18 +153,39 @@ pub fn reading_of<'a>(
     reading::judged(exact::to_step(whole, step as i64))
 }
 
+// The reading of an input by its source: the one function that knows both.
+pub fn reading_of<'a>(
+    source: Source,
+    inputs: &'a [i32; 15],
+    displays: &'a [i32; 15],
+    rises: &'a [i32; 15],
+    runs: &'a [i32; 15],
+    last: usize,
+    step: i32,
+    input: i32,
+) -> Reading
+    requires { ⌜ Readable (now rises) (now runs) last step ⌝ }
+    ensures { λ r. ⌜ r ≡ readBy source (now (inputs .entry)) (now (displays .entry)) (now (rises .entry)) (now (runs .entry)) last step input ⌝ }
+{
+    match source {
+        Source::Points => on_segments(inputs, displays, rises, runs, last, step, input),
+        Source::Platinum => sensing::read(step, input),
+    }
+}
+
 // The reading of an input. The lists are lent one by one: lent out of the whole they would be lent out of a copy of the whole.
 pub fn read(s: Segments, input: i32) -> Reading
     requires { ⌜ Readable (s .rises) (s .runs) (s .last) (s .step) ⌝ }
     ensures { λ r. ⌜ r ≡ read s input ⌝ }
 {
+    let source = s.source;
     let last = s.last as usize;
     let step = s.step;
     let inputs = s.inputs;
     let displays = s.displays;
     let rises = s.rises;
     let runs = s.runs;
-    reading_of(&inputs, &displays, &rises, &runs, last, step, input)
+    reading_of(source, &inputs, &displays, &rises, &runs, last, step, input)
 }
 
 // Whether a rise and a run are such as two points of an accepted configuration have.
@@ -165,7 +210,7 @@ fn segments_in(rises: [i32; 15], runs: [i32; 15]) -> bool
 
 // The test of a scale's parts. Whoever has the parts asks it of them: a call that takes the whole is handed a copy of the whole, and one
 // that takes two lists no more than these.
-pub fn is_tested(step: i32, last: u32, rises: [i32; 15], runs: [i32; 15]) -> bool
+pub fn is_tested(step: i32, last: u8, rises: [i32; 15], runs: [i32; 15]) -> bool
     ensures { λ r. ⌜ r ≡ tested step last rises runs ⌝ }
 {
     exact::is_within(step, 1, 100) & (last < 15) & segments_in(rises, runs)

@@ -1,5 +1,5 @@
--- By its segments an accepted scale reads as it does by its points. Assumes nothing.
-use mathlib.Core.Path.{_≡_, refl, sym, ap₂, _∙_}
+-- As a meter holds it an accepted scale reads as it does by its points, or by the sensor's table where that is its source. Assumes nothing.
+use mathlib.Core.Path.{_≡_, refl, sym, ap, ap₂, subst, _∙_}
 use mathlib.Core.Bool.{Bool, true, false, cond, _&&_}
 use mathlib.Core.List.{List}
 use Prim.Native.Nat.{ℕ, zero, suc, _+_, _-_, _≤_, _<_}
@@ -10,26 +10,36 @@ use lib.IntN.{ℤ, pos, negsuc, natAbs, _+ℤ_, _-ℤ_, +ℤ-comm, -ℤ-+ℤ-can
 use lib.Signed.{leZ, ltZ}
 use Rattle.exact.specs.Sign.{minus, isNeg, within}
 use Rattle.exact.proofs.Z.{never, either, abs-sub-le, lt-diff}
-use Rattle.reading.specs.Reading.{point, firstFrom, segment, onLine, onSegment, displayed, readingOf, displayable, Scalable}
+use Rattle.reading.specs.Reading.{point, firstFrom, segment, onLine, onSegment, displayed, readingOf, displayable, upTo, Scalable}
 use Rattle.reading.specs.declared.Reading.{Reading}
 use Rattle.reading.proofs.Laws.{judged-displayable}
 use Rattle.reading.proofs.Search.{segment-le}
 use Rattle.reading.proofs.Scale.{input-small, display-small}
 use Rattle.reading.proofs.Walk.{walk-all}
 use Rattle.config.specs.Bench.{nothing}
+use Rattle.config.specs.Accepted.{Measurable}
 use Rattle.config.specs.declared.Scale.{Scale}
-use Rattle.segments.specs.Segments.{places, used, startOf, differenceOf, listed, orFixed, held, noSegments, segmentsOf, along, alongAt, readOn, read, segmentIn, segmentAt, tested, canScale}
+use Rattle.config.specs.declared.Source.{Source}
+use Rattle.config.specs.declared.Source.the-variants.{Points, Platinum}
+use Rattle.source.specs.Source.{readingBy}
+use Rattle.source.proofs.Laws.{source-displayable}
+use Rattle.segments.specs.Segments.{places, used, startOf, differenceOf, listed, orFixed, held, ofPoints, noSegments, heldBy, segmentsOf, along, alongAt, readOn, read, segmentIn, segmentAt, tested, canScale}
 use Rattle.segments.specs.Meaning.{Leads, Unused, Alike, Segmented}
 use Rattle.segments.specs.declared.Segments.{Segments}
 use Rattle.segments.proofs.Listed.{held-at, held-unused, listed-alike}
 
 -- ---- a reading by segments can be displayed
 
-pub read-displayable : (s : Segments) (x : ℤ) → displayable (read s x) ≡ true
+on-displayable : (inputs displays rises runs : List ℤ) (last : ℕ) (step x : ℤ) → displayable (readOn inputs displays rises runs last step x) ≡ true
 unfolding readOn displayed displayable
-read-displayable s x =
+on-displayable inputs displays rises runs last step x =
     either (λ (r : Reading). displayable r ≡ true) (ltZ (pos 99999) x) refl
     (either (λ (r : Reading). displayable r ≡ true) (ltZ x (minus 99999)) refl (judged-displayable _))
+
+pub read-displayable : (s : Segments) (x : ℤ) → displayable (read s x) ≡ true
+read-displayable s x =
+    source-displayable (s .source) (readOn (s .inputs) (s .displays) (s .rises) (s .runs) (s .last) (s .step)) (s .step) x
+    (on-displayable (s .inputs) (s .displays) (s .rises) (s .runs) (s .last) (s .step) x)
 
 -- ---- the search finds the same segment
 
@@ -81,36 +91,36 @@ module _ (s : Scale) (a : Scalable (s .inputs) (s .displays) (natAbs (s .count))
   next : (k : ℕ) → k < used s → k + 1 < natAbs (s .count)
   next k h = omega (arith, a .two)
 
-  start-input : (k : ℕ) → k < used s → point (segmentsOf s .inputs) k ≡ point (s .inputs) k
+  start-input : (k : ℕ) → k < used s → point (ofPoints s .inputs) k ≡ point (s .inputs) k
   start-input k h = held-at (used s) (pos 0) (startOf (s .inputs)) k h (there k h)
 
-  start-display : (k : ℕ) → k < used s → point (segmentsOf s .displays) k ≡ point (s .displays) k
+  start-display : (k : ℕ) → k < used s → point (ofPoints s .displays) k ≡ point (s .displays) k
   start-display k h = held-at (used s) (pos 0) (startOf (s .displays)) k h (there k h)
 
-  rise-is : (k : ℕ) → k < used s → point (segmentsOf s .rises) k ≡ differenceOf (s .displays) k
+  rise-is : (k : ℕ) → k < used s → point (ofPoints s .rises) k ≡ differenceOf (s .displays) k
   rise-is k h = held-at (used s) (pos 0) (differenceOf (s .displays)) k h (there k h)
 
-  run-is : (k : ℕ) → k < used s → point (segmentsOf s .runs) k ≡ differenceOf (s .inputs) k
+  run-is : (k : ℕ) → k < used s → point (ofPoints s .runs) k ≡ differenceOf (s .inputs) k
   run-is k h = held-at (used s) (pos 1) (differenceOf (s .inputs)) k h (there k h)
 
   -- the segment that is found, and that it is in use
-  found : (x : ℤ) → firstFrom (segmentsOf s .inputs) x 0 (segmentsOf s .last) ≡ segment (s .inputs) (natAbs (s .count)) x
+  found : (x : ℤ) → firstFrom (ofPoints s .inputs) x 0 (ofPoints s .last) ≡ segment (s .inputs) (natAbs (s .count)) x
   unfolding segment
-  found x = first-alike (segmentsOf s .inputs) (s .inputs) x 0 (natAbs (s .count) - 2) (λ j h g. start-input j (omega (arith, a .two)))
+  found x = first-alike (ofPoints s .inputs) (s .inputs) x 0 (natAbs (s .count) - 2) (λ j h g. start-input j (omega (arith, a .two)))
 
   in-use : (x : ℤ) → segment (s .inputs) (natAbs (s .count)) x < used s
   in-use x = omega (arith, segment-le (s .inputs) x (natAbs (s .count)), a .two)
 
-  line-at : (k : ℕ) (x : ℤ) → k < used s → alongAt (segmentsOf s .inputs) (segmentsOf s .displays) (segmentsOf s .rises) (segmentsOf s .runs) k x ≡ onSegment (s .inputs) (s .displays) k x
+  line-at : (k : ℕ) (x : ℤ) → k < used s → alongAt (ofPoints s .inputs) (ofPoints s .displays) (ofPoints s .rises) (ofPoints s .runs) k x ≡ onSegment (s .inputs) (s .displays) k x
   line-at k x h = rw (start-input k h, start-display k h, rise-is k h, run-is k h) (line-is (s .inputs) (s .displays) k x)
 
-  last-passes : ltb (segmentsOf s .last) places ≡ true
+  last-passes : ltb (ofPoints s .last) places ≡ true
   last-passes = lt-ltb (natAbs (s .count) - 2) places (omega (arith, a .sixteen))
 
-  -- the theorem: by segments as by points
-  pub reads : (x : ℤ) → read (segmentsOf s) x ≡ readingOf (s .inputs) (s .displays) (natAbs (s .count)) (s .step) x
+  -- by segments as by points
+  points-read : (x : ℤ) → read (ofPoints s) x ≡ readingOf (s .inputs) (s .displays) (natAbs (s .count)) (s .step) x
   unfolding readOn readingOf
-  reads x = rw (found x, line-at (segment (s .inputs) (natAbs (s .count)) x) x (in-use x))
+  points-read x = rw (found x, line-at (segment (s .inputs) (natAbs (s .count)) x) x (in-use x))
 
   -- ---- what stands at each place
 
@@ -118,8 +128,8 @@ module _ (s : Scale) (a : Scalable (s .inputs) (s .displays) (natAbs (s .count))
   on : (l : List ℤ) (k : ℕ) → point l k +ℤ differenceOf l k ≡ point l (k + 1)
   on l k = +ℤ-comm (point l k) (differenceOf l k) ∙ -ℤ-+ℤ-cancel (point l (k + 1)) (point l k)
 
-  leads : (k : ℕ) → k < used s → Leads s (segmentsOf s) k
-  leads k h =
+  points-lead : (k : ℕ) → k < used s → Leads s (ofPoints s) k
+  points-lead k h =
       record {
         from-input = start-input k h;
         from-display = start-display k h;
@@ -127,8 +137,8 @@ module _ (s : Scale) (a : Scalable (s .inputs) (s .displays) (natAbs (s .count))
         to-display = rw (start-display k h, rise-is k h) (on (s .displays) k);
       }
 
-  unused : (k : ℕ) → used s ≤ k → k < places → Unused (segmentsOf s) k
-  unused k u h =
+  points-unused : (k : ℕ) → used s ≤ k → k < places → Unused (ofPoints s) k
+  points-unused k u h =
       record {
         input = held-unused (used s) (pos 0) (startOf (s .inputs)) k u h;
         display = held-unused (used s) (pos 0) (startOf (s .displays)) k u h;
@@ -156,13 +166,13 @@ module _ (s : Scale) (a : Scalable (s .inputs) (s .displays) (natAbs (s .count))
       and-true (above-within (differenceOf (s .inputs) k) _ _ (up .0) (omega (arith, up .1)) (omega (arith, run-small k h)))
       (around-within (differenceOf (s .displays) k) _ _ (omega (arith, rise-small k h)) (omega (arith, rise-small k h)))
 
-  place-passes : (k : ℕ) → k < places → segmentAt (segmentsOf s .rises) (segmentsOf s .runs) k ≡ true
+  place-passes : (k : ℕ) → k < places → segmentAt (ofPoints s .rises) (ofPoints s .runs) k ≡ true
   place-passes k h =
-      by-use k (used s) (λ u. rw (rise-is k u, run-is k u) (segment-passes k u)) (λ u. let n = unused k u h in rw (n .rise, n .run) refl)
+      by-use k (used s) (λ u. rw (rise-is k u, run-is k u) (segment-passes k u)) (λ u. let n = points-unused k u h in rw (n .rise, n .run) refl)
 
-  pub passes : canScale (segmentsOf s) ≡ true
+  points-pass : canScale (ofPoints s) ≡ true
   unfolding tested
-  passes = rw (a .step-in, last-passes, walk-all (segmentAt (segmentsOf s .rises) (segmentsOf s .runs)) places place-passes)
+  points-pass = rw (a .step-in, last-passes, walk-all (segmentAt (ofPoints s .rises) (ofPoints s .runs)) places place-passes)
 
 -- ---- points that are not in use leave no trace
 
@@ -179,8 +189,8 @@ module _ (s t : Scale) (a : Scalable (s .inputs) (s .displays) (natAbs (s .count
   alike-difference : (l m : List ℤ) → ((k : ℕ) → k < natAbs (s .count) → point l k ≡ point m k) → (k : ℕ) → k < used s → differenceOf l k ≡ differenceOf m k
   alike-difference l m q k h = ap₂ _-ℤ_ (q (k + 1) (next s a k h)) (q k (omega arith))
 
-  pub no-trace : segmentsOf s ≡ segmentsOf t
-  no-trace =
+  no-points-trace : ofPoints s ≡ ofPoints t
+  no-points-trace =
       rw (
         ← e .step,
         ← e .count,
@@ -196,7 +206,54 @@ pub none-is : noSegments ≡ segmentsOf (nothing .scale)
 unfolding listed
 none-is = refl
 
+-- ---- by either source
+
+-- a sensor's scale passes whatever its points, since its step does
+sensor-passes : (s : Scale) → Measurable s → canScale (heldBy Platinum s) ≡ true
+unfolding tested upTo
+sensor-passes s m = and-true (and-true (m .step-in) refl) refl
+
+module _ (s : Scale) (m : Measurable s) where
+  by-each : (P : Type 0) → (s .source ≡ Points → P) → (s .source ≡ Platinum → P) → P
+  by-each P f g = go (s .source) refl
+    where
+      go : (q : Source) → s .source ≡ q → P
+      go Points e = f e
+      go Platinum e = g e
+
+  -- what is held, where the source is known
+  held-as : (q : Source) → s .source ≡ q → segmentsOf s ≡ heldBy q s
+  held-as q e = ap (λ (r : Source). heldBy r s) e
+
+  -- the theorem: what is held reads as the configuration does
+  pub reads : (x : ℤ) → read (segmentsOf s) x ≡ readingBy s x
+  reads x = by-each (read (segmentsOf s) x ≡ readingBy s x) (λ e. rw e (points-read s (m .scalable e) x)) (λ e. rw e)
+
+  abbrev passing : Segments → Type 0
+  passing h = canScale h ≡ true
+
+  pub passes : canScale (segmentsOf s) ≡ true
+  passes = by-each (canScale (segmentsOf s) ≡ true) (λ e. subst passing (sym (held-as Points e)) (points-pass s (m .scalable e))) (λ e. subst passing (sym (held-as Platinum e)) (sensor-passes s m))
+
+  leads : s .source ≡ Points → (k : ℕ) → k < used s → Leads s (segmentsOf s) k
+  leads e k h = subst (λ (x : Segments). Leads s x k) (sym (held-as Points e)) (points-lead s (m .scalable e) k h)
+
+  unused : s .source ≡ Points → (k : ℕ) → used s ≤ k → k < places → Unused (segmentsOf s) k
+  unused e k u h = subst (λ (x : Segments). Unused x k) (sym (held-as Points e)) (points-unused s (m .scalable e) k u h)
+
+  no-trace : (t : Scale) → Alike s t → segmentsOf s ≡ segmentsOf t
+  no-trace t a =
+      by-each (segmentsOf s ≡ segmentsOf t) (λ e. rw (← a .source, e) (no-points-trace s t (m .scalable e) a)) (λ e. rw (← a .source, e, ← a .step))
+
 -- ---- the claim
 
-pub segmented : (s : Scale) → Scalable (s .inputs) (s .displays) (natAbs (s .count)) (s .step) → Segmented s
-segmented s a = record { reads = reads s a; leads = leads s a; unused = unused s a; no-trace = λ t e. no-trace s t a e; passes = passes s a }
+pub segmented : (s : Scale) → Measurable s → Segmented s
+segmented s m =
+    record {
+      reads = reads s m;
+      leads = leads s m;
+      unused = unused s m;
+      no-trace = no-trace s m;
+      no-points = λ t a b e. rw (a, b, e);
+      passes = passes s m;
+    }

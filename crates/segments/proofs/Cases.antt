@@ -5,6 +5,7 @@ use lib.IntN.{pos}
 use lib.ListN.{replicate}
 use Rattle.exact.specs.Sign.{minus}
 use Rattle.config.specs.declared.Scale.{Scale}
+use Rattle.config.specs.declared.Source.the-variants.{Points}
 use Rattle.segments.specs.Segments.{listed, segmentsOf}
 use Rattle.segments.specs.declared.Segments.{Segments}
 
@@ -12,6 +13,7 @@ use Rattle.segments.specs.declared.Segments.{Segments}
 abbrev pub corner : Scale
 corner =
     record {
+      source = Points;
       step = pos 1;
       count = pos 3;
       inputs = pos 5 ∷ pos 15 ∷ pos 45 ∷ replicate 13 (pos 7);
@@ -21,6 +23,7 @@ corner =
 abbrev held : Segments
 held =
     record {
+      source = Points;
       step = pos 1;
       last = 1;
       inputs = pos 5 ∷ pos 15 ∷ replicate 13 (pos 0);

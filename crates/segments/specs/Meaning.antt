@@ -1,11 +1,13 @@
--- What the segments of an accepted scale are to be, and the claim that joins them to document 01's definition by points: every input
+-- What the segments of an accepted scale are to be, and the claim that joins them to the definition by source and points: every input
 -- reads by the one as it does by the other.
 use mathlib.Core.Path.{_≡_}
 use mathlib.Core.Bool.{true}
 use Prim.Native.Nat.{ℕ, _+_, _≤_, _<_}
 use lib.IntN.{ℤ, pos, natAbs, _+ℤ_}
-use Rattle.reading.specs.Reading.{point, readingOf}
+use Rattle.reading.specs.Reading.{point}
 use Rattle.config.specs.declared.Scale.{Scale}
+use Rattle.config.specs.declared.Source.the-variants.{Points, Platinum}
+use Rattle.source.specs.Source.{readingBy}
 use Rattle.segments.specs.Segments.{places, used, segmentsOf, read, canScale}
 use Rattle.segments.specs.declared.Segments.{Segments}
 
@@ -25,6 +27,7 @@ pub record Unused (h : Segments) (k : ℕ) : Type 0 where
 
 -- two scales that are alike but for the points which are not in use
 pub record Alike (s t : Scale) : Type 0 where
+  pub source : s .source ≡ t .source
   pub step : s .step ≡ t .step
   pub count : s .count ≡ t .count
   pub inputs : (k : ℕ) → k < natAbs (s .count) → point (s .inputs) k ≡ point (t .inputs) k
@@ -32,10 +35,12 @@ pub record Alike (s t : Scale) : Type 0 where
 
 -- the claim, of a scale that is accepted
 pub record Segmented (s : Scale) : Type 0 where
-  pub reads : (x : ℤ) → read (segmentsOf s) x ≡ readingOf (s .inputs) (s .displays) (natAbs (s .count)) (s .step) x
-  pub leads : (k : ℕ) → k < used s → Leads s (segmentsOf s) k
-  pub unused : (k : ℕ) → used s ≤ k → k < places → Unused (segmentsOf s) k
+  pub reads : (x : ℤ) → read (segmentsOf s) x ≡ readingBy s x
+  pub leads : s .source ≡ Points → (k : ℕ) → k < used s → Leads s (segmentsOf s) k
+  pub unused : s .source ≡ Points → (k : ℕ) → used s ≤ k → k < places → Unused (segmentsOf s) k
   -- so that a meter tells nothing of points which its configuration does not use
   pub no-trace : (t : Scale) → Alike s t → segmentsOf s ≡ segmentsOf t
+  -- and with a platinum sensor nothing of the points at all, nor of their number
+  pub no-points : (t : Scale) → s .source ≡ Platinum → t .source ≡ Platinum → s .step ≡ t .step → segmentsOf s ≡ segmentsOf t
   -- and the test at the door lets it through
   pub passes : canScale (segmentsOf s) ≡ true

@@ -1,5 +1,5 @@
 -- A scale as a meter holds it: its segments, made once of the points of a configuration, and the reading of an input by them alone.
--- What a reading is stays document 01's definition by points; that the two agree is claimed in Meaning.
+-- What a reading is stays the definition by source and points; that the two agree is claimed in Meaning.
 use mathlib.Core.Path.{_≡_}
 use mathlib.Core.Bool.{Bool, cond, true, _&&_}
 use mathlib.Core.List.{List, [], _∷_}
@@ -14,6 +14,9 @@ use Rattle.reading.specs.Reading.{inInput, point, firstFrom, displayed, upTo}
 use Rattle.reading.specs.declared.Reading.{Reading}
 use Rattle.reading.specs.declared.Reading.the-variants.{Under, Over}
 use Rattle.config.specs.declared.Scale.{Scale}
+use Rattle.config.specs.declared.Source.{Source}
+use Rattle.config.specs.declared.Source.the-variants.{Points, Platinum}
+use Rattle.source.specs.Source.{bySource}
 use Rattle.segments.specs.declared.Segments.{Segments}
 
 -- ---- the segments of a list of points
@@ -46,9 +49,10 @@ abbrev pub held : ℕ → ℤ → (ℕ → ℤ) → List ℤ
 held n fixed f = listed (orFixed n fixed f) 0 places
 
 -- a place that is not in use starts at 0 with 0, and is flat over a run of 1
-abbrev pub segmentsOf : Scale → Segments
-segmentsOf s =
+abbrev pub ofPoints : Scale → Segments
+ofPoints s =
     record {
+      source = Points;
       step = s .step;
       last = natAbs (s .count) - 2;
       inputs = held (used s) (pos 0) (startOf (s .inputs));
@@ -57,17 +61,30 @@ segmentsOf s =
       runs = held (used s) (pos 1) (differenceOf (s .inputs));
     }
 
--- no step, and no place in use
-abbrev pub noSegments : Segments
-noSegments =
+-- no place in use
+abbrev pub unused : Source → (step : ℤ) → Segments
+unused source step =
     record {
-      step = pos 0;
+      source = source;
+      step = step;
       last = 0;
       inputs = replicate 15 (pos 0);
       displays = replicate 15 (pos 0);
       rises = replicate 15 (pos 0);
       runs = replicate 15 (pos 1);
     }
+
+-- and no step either
+abbrev pub noSegments : Segments
+noSegments = unused Points (pos 0)
+
+-- of a platinum sensor the step is held and nothing of the points, which are not judged
+abbrev pub heldBy : Source → Scale → Segments
+heldBy Points s = ofPoints s
+heldBy Platinum s = unused Platinum (s .step)
+
+abbrev pub segmentsOf : Scale → Segments
+segmentsOf s = heldBy (s .source) s
 
 -- ---- the reading by segments
 
@@ -88,8 +105,12 @@ readOn inputs displays rises runs last step x =
     (cond (ltZ x (minus 99999)) Under
     (displayed (natAbs step) (alongAt inputs displays rises runs (firstFrom inputs x 0 last) x)))
 
+-- or by the source that is no scale
+abbrev pub readBy : Source → (inputs displays rises runs : List ℤ) → ℕ → ℤ → ℤ → Reading
+readBy source inputs displays rises runs last step x = bySource source (readOn inputs displays rises runs last step) step x
+
 abbrev pub read : Segments → ℤ → Reading
-read s x = readOn (s .inputs) (s .displays) (s .rises) (s .runs) (s .last) (s .step) x
+read s x = readBy (s .source) (s .inputs) (s .displays) (s .rises) (s .runs) (s .last) (s .step) x
 
 -- ---- what reading leans on: a step of 1 to 100, a last segment that has a place, and at every place a run of 1 to 199,998, which is what
 -- lies between the ends of the input range, and a rise of no more than that either way. A start may be any number

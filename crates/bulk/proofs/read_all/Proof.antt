@@ -12,6 +12,7 @@ use lib.ListN.{length, take}
 use mir.Syntax.{w32}
 use mir.Val.{toZ, ofZ}
 use Rattle.exact.proofs.Z.{never, both, back32, turned-true, turned-false}
+use Rattle.config.specs.declared.Source.{Source}
 use Rattle.segments.specs.Segments.{read, canScale}
 use Rattle.segments.specs.declared.Segments.{Segments}
 use Rattle.segments.proofs.Scale.{scale-tested}
@@ -21,16 +22,16 @@ use Rattle.bulk.proofs.read_all.Statement.{statement}
 use Rattle.bulk.proofs.read_all.Tie as tie
 
 -- the scale, put together again; its step is its bits here
-abbrev scaleOf : (step last : ℕ) (starts displays rises runs : List ℤ) → Segments
-scaleOf step last starts displays rises runs =
-    record { step = toZ w32 step; last = last; inputs = starts; displays = displays; rises = rises; runs = runs }
+abbrev scaleOf : Source → (step last : ℕ) (starts displays rises runs : List ℤ) → Segments
+scaleOf source step last starts displays rises runs =
+    record { source = source; step = toZ w32 step; last = last; inputs = starts; displays = displays; rises = rises; runs = runs }
 
 abbrev Inv-loop : tie.InvT-loop
-Inv-loop inputs readings₀ last step starts displays rises runs at₀ i₀ readings i =
-    (i ≤ length inputs) × (readings ≡ readInto (scaleOf step last starts displays rises runs) (take i inputs) readings₀)
+Inv-loop inputs readings₀ source last step starts displays rises runs at₀ i₀ readings i =
+    (i ≤ length inputs) × (readings ≡ readInto (scaleOf source step last starts displays rises runs) (take i inputs) readings₀)
 
 abbrev μ-loop : tie.MeasureT-loop
-μ-loop inputs readings₀ last step starts displays rises runs at₀ i₀ readings i = length inputs - i
+μ-loop inputs readings₀ source last step starts displays rises runs at₀ i₀ readings i = length inputs - i
 
 -- the step's bits are its number
 step-back : (c : tie.Start Inv-loop μ-loop) → toZ w32 (ofZ w32 (c .args .s .step)) ≡ c .args .s .step
@@ -80,8 +81,8 @@ reading-of-requires c κs =
 number-of-requires : tie.Need-number-of-requires Inv-loop μ-loop
 number-of-requires c κs = search needs
 
-mul-t19 : tie.Need-mul-t19 Inv-loop μ-loop
-mul-t19 c = omega (arith, going (c .before .before .before .before .before .before .before) .0)
+mul-t20 : tie.Need-mul-t20 Inv-loop μ-loop
+mul-t20 c = omega (arith, going (c .before .before .before .before .before .before .before) .0)
 
 slice-set-from-readings : tie.Need-slice-set-from-readings Inv-loop μ-loop
 slice-set-from-readings c = going (c .before .before .before .before .before .before .before) .1
@@ -99,7 +100,7 @@ loop-again c =
     let l = g .before .loop in
     let s = g .before .before .before .before .before .before .before .before .before in
     let a = s .args in
-    let scale = scaleOf (ofZ w32 (a .s .step)) (a .s .last) (a .s .inputs) (a .s .displays) (a .s .rises) (a .s .runs) in
+    let scale = scaleOf (a .s .source) (ofZ w32 (a .s .step)) (a .s .last) (a .s .inputs) (a .s .displays) (a .s .rises) (a .s .runs) in
     let xs = a .inputs .now in
     let into = a .readings .now in
     let n : length (l .readings) ≡ length into = ap length (l .inv .1) ∙ read-length scale (take (l .i) xs) into in
@@ -113,14 +114,14 @@ same-length : tie.Need-same-length Inv-loop μ-loop
 same-length c =
     let l = c .before .loop in
     let a = c .before .before .before .before .before .before .before .before .before .args in
-    ap length (l .inv .1) ∙ read-length (scaleOf (ofZ w32 (a .s .step)) (a .s .last) (a .s .inputs) (a .s .displays) (a .s .rises) (a .s .runs)) (take (l .i) (a .inputs .now)) (a .readings .now)
+    ap length (l .inv .1) ∙ read-length (scaleOf (a .s .source) (ofZ w32 (a .s .step)) (a .s .last) (a .s .inputs) (a .s .displays) (a .s .rises) (a .s .runs)) (take (l .i) (a .inputs .now)) (a .readings .now)
 
 returns-2 : tie.Need-returns-2 Inv-loop μ-loop
 returns-2 c =
     let l = c .before .loop in
     let e = c .before .before in
     let s = e .before .before .before .before .before .before .before in
-    let scale = scaleOf (ofZ w32 (s .args .s .step)) (s .args .s .last) (s .args .s .inputs) (s .args .s .displays) (s .args .s .rises) (s .args .s .runs) in
+    let scale = scaleOf (s .args .s .source) (ofZ w32 (s .args .s .step)) (s .args .s .last) (s .args .s .inputs) (s .args .s .displays) (s .args .s .rises) (s .args .s .runs) in
     let xs = s .args .inputs .now in
     let into = s .args .readings .now in
     let n : length (l .readings) ≡ length into = ap length (l .inv .1) ∙ read-length scale (take (l .i) xs) into in
@@ -141,7 +142,7 @@ read-all-spec =
     shared-slice-copy-out-reading-of
     reading-of-requires
     number-of-requires
-    mul-t19
+    mul-t20
     slice-set-from-readings
     add-i
     loop-less

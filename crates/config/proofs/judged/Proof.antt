@@ -6,7 +6,7 @@ use lib.ListN.{drop}
 use mir.Syntax.{w32}
 use mir.Val.{toZ, ofZ}
 use Rattle.exact.proofs.Z.{turned-true, turned-false}
-use Rattle.config.specs.Config.{nodeRule, placesRule, stepRule, countRule, pointsRule, totalRule, lowCutRule, alarmsRule, captureRule, analogRule, rules, firstBroken, judged}
+use Rattle.config.specs.Config.{nodeRule, placesRuleBy, stepRule, countRule, pointsRule, totalRule, lowCutRule, alarmsRule, captureRule, analogRule, rules, firstBroken, judged}
 use Rattle.config.specs.declared.Config.{Config}
 use Rattle.config.proofs.Verdicts.{passes, breaks}
 use Rattle.config.proofs.judged.Statement.{statement}
@@ -22,11 +22,11 @@ test1 c =
     let e : toZ w32 (ofZ w32 (config1 c .talking .node)) ≡ config1 c .talking .node = search needs in
     c .is-within .ensures ∙ rw e
 
-abbrev config2 : tie.After-places-rule → Config
+abbrev config2 : tie.After-places-rule-by → Config
 config2 c = config1 (c .before .before)
 
-test2 : (c : tie.After-places-rule) → c .places-rule .result ≡ placesRule (config2 c .talking .places)
-test2 c = c .places-rule .ensures
+test2 : (c : tie.After-places-rule-by) → c .places-rule-by .result ≡ placesRuleBy (config2 c .scale .source) (config2 c .talking .places)
+test2 c = c .places-rule-by .ensures
 
 abbrev config3 : tie.After-is-step → Config
 config3 c = config2 (c .before .before .before)
@@ -36,13 +36,13 @@ test3 c =
     let e : toZ w32 (ofZ w32 (config3 c .scale .step)) ≡ config3 c .scale .step = search needs in
     c .is-step .ensures ∙ rw e
 
-abbrev config4 : tie.After-is-within2 → Config
+abbrev config4 : tie.After-count-rule → Config
 config4 c = config3 (c .before .before .before)
 
-test4 : (c : tie.After-is-within2) → c .is-within2 .result ≡ countRule (config4 c .scale)
+test4 : (c : tie.After-count-rule) → c .count-rule .result ≡ countRule (config4 c .scale)
 test4 c =
     let e : toZ w32 (ofZ w32 (config4 c .scale .count)) ≡ config4 c .scale .count = search needs in
-    c .is-within2 .ensures ∙ rw e
+    c .count-rule .ensures ∙ rw e
 
 abbrev config5 : tie.After-points-rule → Config
 config5 c = config4 (c .before .before)
@@ -56,13 +56,13 @@ config6 c = config5 (c .before .before)
 test6 : (c : tie.After-total-rule) → c .total-rule .result ≡ totalRule (config6 c .working .totalizer)
 test6 c = c .total-rule .ensures
 
-abbrev config7 : tie.After-is-within3 → Config
+abbrev config7 : tie.After-is-within2 → Config
 config7 c = config6 (c .before .before .before)
 
-test7 : (c : tie.After-is-within3) → c .is-within3 .result ≡ lowCutRule (config7 c .working .totalizer)
+test7 : (c : tie.After-is-within2) → c .is-within2 .result ≡ lowCutRule (config7 c .working .totalizer)
 test7 c =
     let e : toZ w32 (ofZ w32 (config7 c .working .totalizer .«low_cut»)) ≡ config7 c .working .totalizer .«low_cut» = search needs in
-    c .is-within3 .ensures ∙ rw e
+    c .is-within2 .ensures ∙ rw e
 
 abbrev config8 : tie.After-alarms-rule → Config
 config8 c = config7 (c .before .before)
@@ -70,13 +70,13 @@ config8 c = config7 (c .before .before)
 test8 : (c : tie.After-alarms-rule) → c .alarms-rule .result ≡ alarmsRule (config8 c .setpoints) (config8 c .working .alarms)
 test8 c = c .alarms-rule .ensures
 
-abbrev config9 : tie.After-is-within4 → Config
+abbrev config9 : tie.After-is-within3 → Config
 config9 c = config8 (c .before .before .before)
 
-test9 : (c : tie.After-is-within4) → c .is-within4 .result ≡ captureRule (config9 c .working .capture)
+test9 : (c : tie.After-is-within3) → c .is-within3 .result ≡ captureRule (config9 c .working .capture)
 test9 c =
     let e : toZ w32 (ofZ w32 (config9 c .working .capture)) ≡ config9 c .working .capture = search needs in
-    c .is-within4 .ensures ∙ rw e
+    c .is-within3 .ensures ∙ rw e
 
 abbrev config10 : tie.After-analog-rule → Config
 config10 c = config9 (c .before .before)
@@ -135,8 +135,8 @@ returns : tie.Need-returns
 unfolding judged rules
 returns c = sym (breaks 1 _ _ (sym (test1 (c .before)) ∙ turned-true _ (c .if1 .taken)))
 
-places-rule-requires : tie.Need-places-rule-requires
-places-rule-requires c κs = search needs
+places-rule-by-requires : tie.Need-places-rule-by-requires
+places-rule-by-requires c κs = search needs
 
 returns-2 : tie.Need-returns-2
 unfolding rules
@@ -149,8 +149,8 @@ returns-3 : tie.Need-returns-3
 unfolding rules
 returns-3 c = sym (past2 (c .before .before .before) ∙ breaks 3 _ _ (sym (test3 (c .before)) ∙ turned-true _ (c .if3 .taken)))
 
-is-within-requires-2 : tie.Need-is-within-requires-2
-is-within-requires-2 c κs = search needs
+count-rule-requires : tie.Need-count-rule-requires
+count-rule-requires c κs = search needs
 
 returns-4 : tie.Need-returns-4
 unfolding rules
@@ -170,8 +170,8 @@ returns-6 : tie.Need-returns-6
 unfolding rules
 returns-6 c = sym (past5 (c .before .before) ∙ breaks 6 _ _ (sym (test6 (c .before)) ∙ turned-true _ (c .if6 .taken)))
 
-is-within-requires-3 : tie.Need-is-within-requires-3
-is-within-requires-3 c κs = search needs
+is-within-requires-2 : tie.Need-is-within-requires-2
+is-within-requires-2 c κs = search needs
 
 returns-7 : tie.Need-returns-7
 unfolding rules
@@ -184,8 +184,8 @@ returns-8 : tie.Need-returns-8
 unfolding rules
 returns-8 c = sym (past7 (c .before .before) ∙ breaks 8 _ _ (sym (test8 (c .before)) ∙ turned-true _ (c .if8 .taken)))
 
-is-within-requires-4 : tie.Need-is-within-requires-4
-is-within-requires-4 c κs = search needs
+is-within-requires-3 : tie.Need-is-within-requires-3
+is-within-requires-3 c κs = search needs
 
 returns-9 : tie.Need-returns-9
 unfolding rules
@@ -208,21 +208,21 @@ judged-spec =
     (tie.spec
     is-within-requires
     returns
-    places-rule-requires
+    places-rule-by-requires
     returns-2
     is-step-requires
     returns-3
-    is-within-requires-2
+    count-rule-requires
     returns-4
     points-rule-requires
     returns-5
     total-rule-requires
     returns-6
-    is-within-requires-3
+    is-within-requires-2
     returns-7
     alarms-rule-requires
     returns-8
-    is-within-requires-4
+    is-within-requires-3
     returns-9
     analog-rule-requires
     returns-10

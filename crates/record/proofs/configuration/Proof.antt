@@ -10,7 +10,7 @@ use Rattle.exact.proofs.Z.{back32}
 use Rattle.text.specs.Line.{before as upTo}
 use Rattle.record.specs.Record.{wordCount, kinds, settingOf}
 use Rattle.record.proofs.Words.{word-is}
-use Rattle.record.proofs.Turns.{Reading, starts, all-read, no-setting, last-setting, next-setting}
+use Rattle.record.proofs.Turns.{withSensor, Reading, starts, all-read, no-setting, last-setting, next-setting}
 use borrow.Author.Needs.{needs}
 use native.Mathlib.Omega.{arith}
 use Rattle.record.proofs.configuration.Statement.{statement}
@@ -82,11 +82,13 @@ ended-requires c κs = search needs
 
 returns-2 : tie.Need-returns-2 Inv-loop μ-loop
 returns-2 c =
-    let d = c .before .before .before .before .before in
+    let d = c .before .before .before .before .before .before in
     let l = d .before .before .before .before .loop in
-    let v = c .before .before .before .n .given in
-    let t = last-setting (line d) _ (l .settings) (l .at) (l .i) (l .inv .2) (omega arith) _ (d .before .before .word-end .ensures .0) (v .0 .0) (setting-is d ∙ v .1) (omega arith) (omega arith) in
-    (c .ended .ensures ∙ t .0, ap (set (l .settings) (l .i)) (back32 (v .0 .0) (c .before .before .known-told .given .0 .1)) ∙ t .1)
+    let v = c .before .before .before .before .n .given in
+    let t = last-setting (line d) _ (l .settings) (l .at) (l .i) (l .inv .2) (omega arith) _ (d .before .before .word-end .ensures .0) (v .0 .0) (setting-is d ∙ v .1) (omega arith) (omega arith) in (
+      c .ended .ensures .0 ∙ t .0,
+      c .ended .ensures .1 ∙ ap (λ (z : ℤ). withSensor (l .i + 1) (set (l .settings) (l .i) z)) (back32 (v .0 .0) (c .before .before .before .known-told .given .0 .1)) ∙ t .1,
+    )
 
 add-at : tie.Need-add-at Inv-loop μ-loop
 add-at c = omega arith

@@ -3,7 +3,7 @@ use mathlib.Core.Path.{ap, _∙_}
 use mathlib.Core.List.{List}
 use Prim.Native.Nat.{ℕ}
 use Rattle.text.proofs.Laws.{rest}
-use Rattle.record.specs.Record.{words, kinds, settingsOf, configurationSaid, stored}
+use Rattle.record.specs.Record.{words, configurationRead, configurationSaid, stored}
 use Rattle.record.proofs.Said.{short-is, none-read, configuration-is, settings-are, no-cfg, untouched}
 use borrow.Author.Needs.{needs}
 use Rattle.record.proofs.parse.Statement.{statement}
@@ -49,7 +49,7 @@ returns-2 c =
     let y = c .before .before .before .if2 .taken in
     let e = c .configuration .ensures in (
       e .0 ∙ ap (λ (l : List ℕ). configurationSaid (words l)) (rest 4 s) ∙ configuration-is s y,
-      e .1 ∙ ap (λ (l : List ℕ). stored 0 (a .settings .now) (settingsOf kinds (words l))) (rest 4 s) ∙ ap (stored 0 (a .settings .now)) (settings-are s y),
+      e .1 ∙ ap (λ (l : List ℕ). stored 0 (a .settings .now) (configurationRead (words l))) (rest 4 s) ∙ ap (stored 0 (a .settings .now)) (settings-are s y),
     )
 
 brief-requires-2 : tie.Need-brief-requires-2

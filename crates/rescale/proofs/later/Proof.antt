@@ -17,12 +17,12 @@ use Rattle.rescale.proofs.later.Statement.{statement}
 use Rattle.rescale.proofs.later.Tie as tie
 
 abbrev Inv-loop : tie.InvT-loop
-Inv-loop block line₀ buf₀ mode scale last step inputs displays rises runs len₀ out₀ at₀ line buf len out at =
+Inv-loop block line₀ buf₀ mode scale source last step inputs displays rises runs len₀ out₀ at₀ line buf len out at =
     (at ≤ length block) × (length buf ≡ length buf₀)
     × Reaches heardBy block line₀ len₀ (stand mode scale (waiting (out₀ .at) buf₀)) (stand mode scale (waiting (out .at) buf)) line len at
 
 abbrev μ-loop : tie.MeasureT-loop
-μ-loop block line₀ buf₀ mode scale last step inputs displays rises runs len₀ out₀ at₀ line buf len out at =
+μ-loop block line₀ buf₀ mode scale source last step inputs displays rises runs len₀ out₀ at₀ line buf len out at =
     length block - at
 
 cast-last : tie.Need-cast-last Inv-loop μ-loop

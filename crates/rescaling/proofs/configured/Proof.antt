@@ -1,10 +1,9 @@
 -- `rescaling::configured` meets its contract: a scale that is accepted has segments. Assumes nothing.
 use mathlib.Core.Path.{_≡_, sym, ap, _∙_}
-use Rattle.exact.proofs.Z.{from-to}
 use Rattle.config.specs.Config.{judged}
 use Rattle.config.specs.declared.Verdict.{Verdict}
 use Rattle.config.specs.declared.Verdict.the-variants.{Accepted}
-use Rattle.config.proofs.Acceptance.{count-in, scale-accepted}
+use Rattle.config.proofs.Acceptance.{scale-accepted}
 use Rattle.rescaling.specs.Rescaling.{byVerdict}
 use Rattle.rescaling.specs.Held.{openedAs}
 use borrow.Author.Needs.{needs}
@@ -22,9 +21,7 @@ kept : (c : tie.After-enum-told) → judged (c .before .before .before .before .
 kept c = sym (c .before .before .judged .ensures) ∙ c .enum-told .given .1
 
 made-requires : tie.Need-made-requires
-made-requires c κs =
-    let config = c .before .before .before .before .args .c in
-    (from-to (config .scale .count) 2 16 (count-in config (kept c)) .0, scale-accepted config (kept c))
+made-requires c κs = scale-accepted (c .before .before .before .before .args .c) (kept c)
 
 enum-known-verdict : tie.Need-enum-known-verdict
 enum-known-verdict c = search needs

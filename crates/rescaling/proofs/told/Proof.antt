@@ -16,7 +16,7 @@ use Rattle.rescaling.proofs.told.Tie as tie
 
 -- the scale that is lent, and the line
 abbrev scale : tie.Start → Segments
-scale s = lists (s .args .step) (s .args .last) (s .args .inputs .now) (s .args .displays .now) (s .args .rises .now) (s .args .runs .now)
+scale s = lists (s .args .source) (s .args .step) (s .args .last) (s .args .inputs .now) (s .args .displays .now) (s .args .rises .now) (s .args .runs .now)
 
 abbrev line : tie.Start → Heard
 line s = heard (s .args .line .now) (s .args .len)

@@ -1,10 +1,9 @@
 -- `meter::Meter::power_up` meets its contract: the verdict decides. Assumes nothing.
 use borrow.Author.Needs.{needs}
 use mathlib.Core.Path.{_≡_, sym, _∙_}
-use Rattle.exact.proofs.Z.{from-to}
 use Rattle.config.specs.Config.{judged}
 use Rattle.config.specs.declared.Verdict.the-variants.{Accepted}
-use Rattle.config.proofs.Acceptance.{count-in, scale-accepted}
+use Rattle.config.proofs.Acceptance.{scale-accepted}
 use Rattle.segments.proofs.ByPoints.{none-is}
 use Rattle.meter.proofs.Meter.power_up.Statement.{statement}
 use Rattle.meter.proofs.Meter.power_up.Tie as tie
@@ -20,9 +19,7 @@ enum-told : tie.Need-enum-told
 enum-told c = search needs
 
 made-requires : tie.Need-made-requires
-made-requires c κs =
-    let config = c .before .before .before .before .args .config in
-    (from-to (config .scale .count) 2 16 (count-in config (accepted c)) .0, scale-accepted config (accepted c))
+made-requires c κs = scale-accepted (c .before .before .before .before .args .config) (accepted c)
 
 fresh-requires : tie.Need-fresh-requires
 fresh-requires c κs = search needs
