@@ -9,12 +9,16 @@
 //     B times bytes    the bytes by turns
 //     R times          the inputs of M read in bulk, 128 at a time, as often as that many go into the number; the last 16 readings are
 //                      printed, and no meter is given anything
+//     P times          as M, to a meter with a platinum sensor, whose inputs read what those of M do
+//     O times          as R, by that sensor
 ghost use Prim.Native.Nat.{_<_};
 ghost use lib.ListN.{length};
 use alarm::Settings;
 use answer::Answer;
 use config::Analog;
 use config::Config;
+use config::Scale;
+use config::Source;
 use libc::STDIN_FILENO;
 use libc::STDOUT_FILENO;
 use meter::Meter;
@@ -108,6 +112,23 @@ fn cost_config() -> Config {
     c
 }
 
+// The same with a platinum sensor.
+fn sensor_config() -> Config {
+    let mut c = cost_config();
+    let points = c.scale;
+    let inputs = points.inputs;
+    let displays = points.displays;
+    let scale = Scale {
+        source: Source::Platinum,
+        step: points.step,
+        count: points.count,
+        inputs,
+        displays,
+    };
+    c.scale = scale;
+    c
+}
+
 // ---- the events
 //
 // Each loop has one event before it, so that every call stands at two places: the compiler then makes a function of it, as in a program
@@ -132,6 +153,26 @@ const INPUTS: [i32; 16] = [
     13500,
     11500,
     9500,
+];
+
+// The resistances that read the same by the sensor, so that what is made of a reading is the same.
+const OHMS: [i32; 16] = [
+    174568,
+    141914,
+    117663,
+    103708,
+    100781,
+    109347,
+    128605,
+    157325,
+    193193,
+    232691,
+    270933,
+    305309,
+    330271,
+    288443,
+    252248,
+    212764,
 ];
 
 // The place that follows in a list that is gone through by turns.
@@ -215,10 +256,18 @@ fn bulk_readings(m: Meter, inputs: &[i32], readings: &mut [i32], times: u64) -> 
 }
 
 // A meter that has had one round of samples, so that it has a reading, a total, a max and a min to show.
-fn started() -> Meter {
-    let o = Meter::power_up(cost_config());
-    let p = mixed_samples(o.meter, &INPUTS, 16);
+fn after_a_round(config: Config, inputs: &[i32; 16]) -> Meter {
+    let o = Meter::power_up(config);
+    let p = mixed_samples(o.meter, inputs, 16);
     p.meter
+}
+
+fn started() -> Meter {
+    after_a_round(cost_config(), &INPUTS)
+}
+
+fn sensor_started() -> Meter {
+    after_a_round(sensor_config(), &OHMS)
 }
 
 fn not_started() -> Meter {
@@ -312,11 +361,11 @@ fn with_bytes(times: u64, list: &[u8], buffer: &mut [u8]) {
     put_outcome(o, &mut *buffer);
 }
 
-// R, whose readings are in no meter.
-fn in_bulk(times: u64) {
-    let inputs = by_turns(&INPUTS);
+// R and O, whose readings are in no meter.
+fn in_bulk(m: Meter, round: &[i32; 16], times: u64) {
+    let inputs = by_turns(round);
     let mut readings = [0; ROUNDS];
-    let a = bulk_readings(started(), &inputs, &mut readings, times);
+    let a = bulk_readings(m, &inputs, &mut readings, times);
     put_readings(a, &readings);
 }
 
@@ -326,7 +375,9 @@ fn events(letter: u8, times: u64, rest: &[u8]) {
     match letter {
         b'M' => put_outcome(mixed_samples(started(), &INPUTS, times), &mut buffer),
         b'B' => with_bytes(times, rest, &mut buffer),
-        b'R' => in_bulk(times),
+        b'R' => in_bulk(started(), &INPUTS, times),
+        b'P' => put_outcome(mixed_samples(sensor_started(), &OHMS, times), &mut buffer),
+        b'O' => in_bulk(sensor_started(), &OHMS, times),
         _ => with_number(letter, times, text::read_number(rest), &mut buffer),
     }
 }
