@@ -16,13 +16,18 @@
 # may say (document 02, ticket 9). It goes to `sentences` as well, which must find
 # it too.
 #
+# A row with ` + ohms` behind its file has a fault of a platinum meter's readings
+# (document 02, ticket 3). It goes to `ohms` as well, which must find it too. The
+# file `rescale` is that of the program which `rescaled` and `ohms` feed, and no
+# history goes through it. Its rows go to these two, and both must find them.
+#
 # The files `binary32`, `record` and `historian` are those of readings for the
 # historian (document 02, ticket 12), which no history has. Their rows go to
 # `historied` instead.
 #
 #   ./faults.sh              every row of the table
 #   ./faults.sh NAME ..      only these, each with its shortened history, or with
-#                            the line that `historied` found to differ
+#                            the line that `historied` or `ohms` found to differ
 #
 # SEED and EVENTS can be set in the environment.
 set -eu
@@ -88,11 +93,11 @@ under-not-below | alarms + sentences | /^fn is_at_or_below/,/^}/ s/Reading::Unde
 halves-towards-zero | fraction | s/2 \* left_over >= self.denominator/2 * left_over > self.denominator/
 halves-up | fraction | s/if 2 \* left_over >= self.denominator/if 2 * left_over > self.denominator || (2 * left_over == self.denominator \&\& self.numerator > 0)/
 cut-is-floor | fraction + sentences | s/self.numerator \/ self.denominator/self.numerator.div_euclid(self.denominator)/
-rounded-once | reading | s/let whole = line_at(.*/let step = i128::from(configuration.rounding); let width = i128::from(right.input - left.input); let rise = i128::from(right.display - left.display); let once = Fraction::new(i128::from(left.display) * width + i128::from(input - left.input) * rise, width * step); return within_display(once.nearest_half_away_from_zero() * step); let whole = 0;/
+rounded-once | reading | s/let whole = height_over.*/if configuration.source == Source::Points { let (left, right) = segment_for(scale.points, input); let step = i128::from(configuration.rounding); let width = i128::from(right.input - left.input); let rise = i128::from(right.display - left.display); let once = Fraction::new(i128::from(left.display) * width + i128::from(input - left.input) * rise, width * step); return within_display(once.nearest_half_away_from_zero() * step); } &/
 segment-left-one-late | reading | s/ends\[1\].input >= input/ends[1].input + 1 >= input/
 first-segment-behind-the-last | reading | s/(points\[points.len() - 2\], points\[points.len() - 1\])/(points[0], points[1])/
-input-limit-one-wide | reading | s/if input > LARGEST_INPUT/if input > LARGEST_INPUT + 1/
-input-limit-one-narrow | reading | s/if input < -LARGEST_INPUT/if input <= -LARGEST_INPUT/
+input-limit-one-wide | reading | s/highest_input: LARGEST_INPUT/& + 1/
+input-limit-one-narrow | reading | s/lowest_input: -LARGEST_INPUT/& + 1/
 low-end-of-display | reading | s/result < i128::from(LOWEST_DISPLAY)/result <= i128::from(LOWEST_DISPLAY)/
 low-cut-itself-left-out | total + sentences | s/number >= i128::from/number > i128::from/
 low-cut-in-batch | total + sentences | /pub fn take_batch/,/^    }/ s/if let Reading::Number(number) = reading {/if let Reading::Number(number) = reading { if number < i128::from(configuration.low_cut) { return; }/
@@ -293,6 +298,55 @@ history-two-spaces-for-one | historian | s/== b' ')\.collect()/== b' ').filter(|
 history-small-letters-taken | historian | s/\[b"W", reading, places\]/[b"W" | b"w", reading, places]/; s/\[b"R", hex\]/[b"R" | b"r", hex]/
 history-bits-shown-without-zeros | historian | s/{:08x}/{:x}/
 history-bits-shown-low-byte-first | historian | s/record.bits)/record.bits.swap_bytes())/
+platinum-entries-halves-down | fraction + ohms | s/2 \* self.numerator + self.denominator, 2/2 * self.numerator + self.denominator - 1, 2/
+platinum-entries-cut | platinum + ohms | s/\.nearest_half_up()/.floor()/
+platinum-last-term-left-out | platinum + ohms | s/C \* (degree - 100) \* degree \* square/0/
+platinum-last-term-above-zero-too | platinum + ohms | s/if degree < 0 {/if true {/
+platinum-100-added | platinum + ohms | s/degree - 100/degree + 100/
+platinum-square-with-another-sign | platinum + ohms | s/const B: i128 = -/const B: i128 = /
+platinum-one-entry-one-above | platinum + ohms | s/input: resistance(degree)/& + i32::from(degree == 137)/
+platinum-one-entry-one-below | platinum + ohms | s/input: resistance(degree)/& - i32::from(degree == -73)/
+platinum-curve-one-degree-short | platinum + ohms | s/HIGHEST_DEGREE: i32 = 850/HIGHEST_DEGREE: i32 = 849/
+platinum-curve-begins-ten-late | platinum + ohms | s/LOWEST_DEGREE: i32 = -200/LOWEST_DEGREE: i32 = -190/
+platinum-hundredths-of-a-degree | platinum + ohms | s/TENTHS: i32 = 10/TENTHS: i32 = 100/
+platinum-whole-degrees | reading + ohms | s/let stepped = /let whole = if configuration.source == Source::Platinum { to_step(whole, 10) } else { whole }; &/
+platinum-rounded-once | reading + ohms | s/let whole = height_over.*/if configuration.source == Source::Platinum { let (left, right) = segment_for(scale.points, input); let step = i128::from(configuration.rounding); let width = i128::from(right.input - left.input); let rise = i128::from(right.display - left.display); let once = Fraction::new(i128::from(left.display) * width + i128::from(input - left.input) * rise, width * step); return within_display(once.nearest_half_away_from_zero() * step); } &/
+platinum-part-rounded-by-itself | reading + ohms | s/let whole = height_over.*/& let whole = if configuration.source == Source::Platinum { let (left, right) = segment_for(scale.points, input); i128::from(left.display) + Fraction::new(10 * i128::from(input - left.input), i128::from(right.input - left.input)).nearest_half_away_from_zero() } else { whole };/
+platinum-halves-towards-zero | reading + ohms | s/let whole = height_over.*/& let height = height_over(scale.points, input); let whole = if configuration.source == Source::Platinum \&\& height.rest() == crate::fraction::Rest::Half { height.cut_towards_zero() } else { whole };/
+platinum-tenths-cut | reading + ohms | s/let whole = height_over.*/& let whole = if configuration.source == Source::Platinum { height_over(scale.points, input).cut_towards_zero() } else { whole };/
+platinum-step-left-out | reading + ohms | s/let stepped = \(.*\);/let stepped = if configuration.source == Source::Platinum { whole } else { \1 };/
+platinum-step-with-halves-up | reading + ohms | s/let stepped = \(.*\);/let step = i128::from(configuration.rounding); let stepped = if configuration.source == Source::Platinum { Fraction::new(whole, step).nearest_half_up() * step } else { \1 };/
+platinum-over-at-the-highest | reading + ohms | s/highest_input: HIGHEST_RESISTANCE/& - 1/
+platinum-over-one-late | reading + ohms | s/highest_input: HIGHEST_RESISTANCE/& + 1/
+platinum-under-at-the-lowest | reading + ohms | s/lowest_input: LOWEST_RESISTANCE/& + 1/
+platinum-under-one-late | reading + ohms | s/lowest_input: LOWEST_RESISTANCE/& - 1/
+platinum-input-limit-left-on | reading + ohms | s/highest_input: HIGHEST_RESISTANCE/highest_input: LARGEST_INPUT/
+platinum-neighbours-above | reading + ohms | /^pub fn height_over/,/^}/ s/let (left, right) = \(.*\);/let right_of = |at: usize| { let at = (at + 1).min(points.len() - 2); (points[at], points[at + 1]) }; let (left, right) = if points.len() > 16 { right_of(points.windows(2).position(|ends| ends[1].input >= input).unwrap()) } else { \1 };/
+platinum-neighbours-below | reading + ohms | /^pub fn height_over/,/^}/ s/let (left, right) = \(.*\);/let left_of = |at: usize| { let at = at.saturating_sub(1); (points[at], points[at + 1]) }; let (left, right) = if points.len() > 16 { left_of(points.windows(2).position(|ends| ends[1].input >= input).unwrap()) } else { \1 };/
+platinum-neighbours-swapped | reading + ohms | /^pub fn height_over/,/^}/ s/let (left, right) = .*/& let (left, right) = if points.len() > 16 { (Point { display: right.display, ..left }, Point { display: left.display, ..right }) } else { (left, right) };/
+platinum-places-0-taken | config | s/self.input_places == PLACES/lies_in(self.input_places, 0, 1)/
+platinum-places-2-taken | config | s/self.input_places == PLACES/lies_in(self.input_places, 1, 2)/
+platinum-places-of-points-taken | config | s/self.input_places == PLACES/lies_in(self.input_places, 0, 4)/
+platinum-total-places-must-be-1 | config | s/input_places_are_good \&\& /& (self.source == Source::Points || self.total_places == PLACES) \&\& /
+points-with-one-place-only | config | s/Source::Points => lies_in(self.input_places, 0, 4)/Source::Points => self.input_places == PLACES/
+platinum-number-of-points-judged | config | s/Source::Platinum => true/Source::Platinum => lies_in(self.point_count, 2, 16)/
+platinum-points-judged | config | s/if self.source == Source::Platinum {/if self.source == Source::Platinum \&\& !lies_in(self.point_count, 2, 16) {/
+platinum-step-not-judged | config | s/\[1, 2, 5, 10, 20, 50, 100\]/self.source == Source::Platinum || &/
+platinum-step-judged-before-places | config | s/(Rule::DecimalPlaces, self.places_are_good())/(Rule::DecimalPlaces, self.places_are_good() || self.source == Source::Platinum \&\& !self.rounding_is_good())/
+platinum-places-judged-before-node | config | s/(Rule::Node, self.node_is_good())/(Rule::Node, self.node_is_good() || self.source == Source::Platinum \&\& !self.places_are_good())/
+platinum-places-judged-last | config | s/(Rule::DecimalPlaces, self.places_are_good())/(Rule::DecimalPlaces, self.places_are_good() || self.source == Source::Platinum)/; s/(Rule::Analog, self.analog_is_good()),/& (Rule::DecimalPlaces, self.places_are_good()),/
+source-word-ignored | lines + ohms | s/true => Some(Source::Platinum)/true => Some(Source::Points)/
+source-words-exchanged | lines | s/true => Some(Source::Platinum)/true => Some(Source::Points)/; s/false => Some(Source::Points)/false => Some(Source::Platinum)/
+source-left-out-is-platinum | lines | s/None => Some(Source::Points)/None => Some(Source::Platinum)/
+source-left-out-is-the-last-one | lines | /fn source(/ s/$/ use std::sync::atomic::{AtomicBool, Ordering}; static LAST: AtomicBool = AtomicBool::new(false);/; s/None => Some(Source::Points)/None => Some(if LAST.load(Ordering::Relaxed) { Source::Platinum } else { Source::Points })/; s/match yes_or_no(word)? {/match { let named = yes_or_no(word)?; LAST.store(named, Ordering::Relaxed); named } {/
+source-2-taken | lines | s/match yes_or_no(word)? {/match yes_or_no(word).or((*word == b"2").then_some(true))? {/
+source-taken-as-a-number | lines | s/match yes_or_no(word)? {/match match number(word)? { 0 => false, 1 => true, _ => return None } {/
+source-of-an-empty-word-taken | lines | s/match yes_or_no(word)? {/match yes_or_no(word).or(word.is_empty().then_some(false))? {/
+source-not-the-last-word | lines | /^fn configuration(/,/^}/ s/Some(_) => None,/Some(_) => Some(configuration),/
+source-kept-when-points-follow | meter | s/\*self = Meter::Started.*/let mut new = Running::new(configuration); if let Meter::Started(old) = self { if old.configuration.source == crate::config::Source::Platinum { new.configuration.source = old.configuration.source; } } *self = Meter::Started(Box::new(new));/
+source-kept-when-platinum-follows | meter | s/\*self = Meter::Started.*/let mut new = Running::new(configuration); if let Meter::Started(old) = self { if old.configuration.source == crate::config::Source::Points { new.configuration.source = old.configuration.source; } } *self = Meter::Started(Box::new(new));/
+rescale-by-the-points-in-any-case | rescale | s/reading_of(configuration, input)/reading_of(\&Configuration { source: crate::config::Source::Points, point_count: configuration.point_count.clamp(2, 16), ..configuration.clone() }, input)/
+rescale-without-the-word | rescale | s/let answer = match/if configuration.source == crate::config::Source::Platinum { *self = Rescale::WithoutConfiguration; return not_understood(); } &/
 TABLE
 }
 
@@ -305,6 +359,7 @@ spoil() {
     sed -i '/pub mod differ;/d; /pub mod sentences;/d' "$copy/src/lib.rs"
     sed '/name = "differ"/d; /src\/bin\/differ.rs/d
         /name = "rescaled"/d; /src\/bin\/rescaled.rs/d
+        /name = "ohms"/d; /src\/bin\/ohms.rs/d
         /name = "historied"/d; /src\/bin\/historied.rs/d
         /name = "sentences"/d; /src\/bin\/sentences.rs/d' Cargo.toml |
         awk '/^\[\[bin\]\]/ { if (seen++) next } { print }' > "$copy/Cargo.toml"
@@ -342,6 +397,22 @@ by_rescaled() {
     *) printf '%-34s rescaled could not run\n' ''; return 1 ;;
     esac
     [ "$1" != none ] || [ "$differs" -eq 0 ]
+}
+
+# Holds a copy's `rescale` against the model by `ohms`, and tells below the row
+# after how many readings the fault was found. It must be.
+by_ohms() {
+    status=0
+    target/release/ohms -- "$copy/target/release/model" rescale \
+        > target/faults.out 2>/dev/null || status=$?
+    found=$(sed -n 's/^DIFFERENCE after \([0-9]*\) readings.*/\1/p' target/faults.out)
+    step=$(sed -n 's/^DIFFERENCE after .*, with //p' target/faults.out)
+    if [ "$status" -ne 1 ] || [ -z "$found" ]; then
+        printf '%-34s NOT FOUND by ohms\n' ''
+        return 1
+    fi
+    printf '%-34s found after %8s readings by ohms, with %s\n' '' "$found" "$step"
+    [ $# -eq 0 ] || sed -n '/^input: /,$p' target/faults.out
 }
 
 # Judges a copy by `sentences`, and tells below the row what was broken, and after
@@ -399,7 +470,7 @@ while IFS= read -r row; do
     file=${rest%% | *}
     edit=${rest#* | }
     also=${file##* + }
-    file=${file% + sentences}
+    file=${file%% + *}
     wanted "$name" "$@" || continue
     if ! spoil "$file" "$edit"; then
         echo "$name: could not be put in"
@@ -409,6 +480,12 @@ while IFS= read -r row; do
     case $file in
     binary32 | record | historian)
         by_historied "$name" "$@" || missed=1
+        continue
+        ;;
+    rescale)
+        printf '%-34s in no history\n' "$name"
+        by_rescaled "$edit" && [ "$differs" -eq 1 ] || missed=1
+        by_ohms "$@" || missed=1
         continue
         ;;
     esac
@@ -433,5 +510,6 @@ while IFS= read -r row; do
     fi
     [ "$file" != held ] || by_rescaled "$edit" || missed=1
     [ "$also" != sentences ] || by_sentences "$@" || missed=1
+    [ "$also" != ohms ] || by_ohms "$@" || missed=1
 done < target/faults.table
 exit $missed

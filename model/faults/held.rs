@@ -3,9 +3,11 @@
 //! each time, and has no place for the faults of holding segments: faults.sh
 //! puts this module into its copies of the model.
 
-use crate::config::{Configuration, Point, HIGHEST_DISPLAY, LARGEST_INPUT, LOWEST_DISPLAY};
+use crate::config::{
+    Configuration, Point, Source, HIGHEST_DISPLAY, LARGEST_INPUT, LOWEST_DISPLAY,
+};
 use crate::fraction::Fraction;
-use crate::reading::Reading;
+use crate::reading::{self, Reading};
 
 /// One segment: where it starts, how far it rises, and how far it runs.
 #[derive(Clone, Copy, Debug)]
@@ -21,16 +23,27 @@ struct Segment {
 pub struct Held {
     segments: Vec<Segment>,
     step: i128,
+    /// The settings of a platinum meter, which has no segments and is read as in
+    /// the model.
+    platinum: Option<Box<Configuration>>,
 }
 
 /// Makes the segments of a good configuration. The points that are not in use
 /// are at hand here, so that a fault can reach for them.
 pub fn held_of(configuration: &Configuration) -> Held {
+    if configuration.source == Source::Platinum {
+        return Held {
+            segments: Vec::new(),
+            step: i128::from(configuration.rounding),
+            platinum: Some(Box::new(configuration.clone())),
+        };
+    }
     let points = &configuration.points;
     let in_use = configuration.point_count as usize - 1;
     Held {
         segments: (0..in_use).map(|left| segment_at(points, left)).collect(),
         step: i128::from(configuration.rounding),
+        platinum: None,
     }
 }
 
@@ -47,6 +60,9 @@ fn segment_at(points: &[Point; 16], left: usize) -> Segment {
 
 impl Held {
     pub fn reading_of(&self, input: i32) -> Reading {
+        if let Some(settings) = &self.platinum {
+            return reading::reading_of(settings, input);
+        }
         let input = i128::from(input);
         let index = self.index_for(input);
         let segment = self.segments[index];

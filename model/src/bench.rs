@@ -2,7 +2,7 @@
 //! `S number`, `K number` and `C bytes`.
 
 use crate::answer::Answer;
-use crate::config::{AlarmSettings, Configuration, Point};
+use crate::config::{AlarmSettings, Configuration, Point, Source};
 use crate::lines::number;
 use crate::meter::{Event, Meter};
 
@@ -109,6 +109,7 @@ pub fn bench_configuration() -> Configuration {
         print_max_min: false,
         print_total: false,
         print_setpoints: false,
+        source: Source::Points,
     }
 }
 

@@ -1,10 +1,22 @@
-//! The configuration given at power-up, and its ten rules.
+//! The configuration given at power-up, and its ten rules. Document 02, ticket 3
+//! adds the source of the reading, and what the rules ask of a platinum meter.
+
+use crate::platinum::PLACES;
 
 /// One scaling point: at this input the scale shows this display.
 #[derive(Clone, Copy, PartialEq, Eq, Debug, Default)]
 pub struct Point {
     pub input: i32,
     pub display: i32,
+}
+
+/// Where the reading comes from (document 02, ticket 3).
+#[derive(Clone, Copy, PartialEq, Eq, Debug)]
+pub enum Source {
+    /// The scaling points, as document 01 has it.
+    Points,
+    /// The curve of a platinum sensor. The points are not looked at.
+    Platinum,
 }
 
 /// The settings of one alarm. Delays are tenths of a second.
@@ -43,6 +55,7 @@ pub struct Configuration {
     pub print_max_min: bool,
     pub print_total: bool,
     pub print_setpoints: bool,
+    pub source: Source,
 }
 
 /// The configuration rules, in the order in which they are judged.
@@ -109,9 +122,14 @@ impl Configuration {
         lies_in(self.node, 0, 99)
     }
 
-    /// Rule 2.
+    /// Rule 2. A platinum meter reads tenths, so that its input can have one
+    /// place only (document 02, ticket 3).
     fn places_are_good(&self) -> bool {
-        lies_in(self.input_places, 0, 4) && lies_in(self.total_places, 0, 4)
+        let input_places_are_good = match self.source {
+            Source::Points => lies_in(self.input_places, 0, 4),
+            Source::Platinum => self.input_places == PLACES,
+        };
+        input_places_are_good && lies_in(self.total_places, 0, 4)
     }
 
     /// Rule 3.
@@ -119,13 +137,21 @@ impl Configuration {
         [1, 2, 5, 10, 20, 50, 100].contains(&self.rounding)
     }
 
-    /// Rule 4.
+    /// Rule 4, which is not judged on a platinum meter (document 02,
+    /// ticket 3).
     fn point_count_is_good(&self) -> bool {
-        lies_in(self.point_count, 2, 16)
+        match self.source {
+            Source::Points => lies_in(self.point_count, 2, 16),
+            Source::Platinum => true,
+        }
     }
 
-    /// Rule 5. Points that are not in use are not looked at.
+    /// Rule 5, which is not judged on a platinum meter either. Points that are
+    /// not in use are not looked at.
     fn points_are_good(&self) -> bool {
+        if self.source == Source::Platinum {
+            return true;
+        }
         if !self.point_count_is_good() {
             return false;
         }
@@ -151,7 +177,8 @@ impl Configuration {
             && self.analog_low != self.analog_high
     }
 
-    /// The points that the point count takes from the front of the list.
+    /// The points that the point count takes from the front of the list. Only a
+    /// meter that reads by points has any.
     pub fn points_in_use(&self) -> &[Point] {
         &self.points[..self.point_count as usize]
     }

@@ -1,11 +1,22 @@
-//! Exact fractions, and the three ways in which document 01 makes whole
-//! numbers of them.
+//! Exact fractions, and the ways in which whole numbers are made of them: three
+//! of document 01, and one of document 02, ticket 3.
+
+use std::cmp::Ordering;
 
 /// A quotient of two whole numbers, kept with a denominator above zero.
 #[derive(Clone, Copy, Debug)]
 pub struct Fraction {
     numerator: i128,
     denominator: i128,
+}
+
+/// What stands behind a fraction's point, without its sign.
+#[derive(Clone, Copy, PartialEq, Eq, Debug)]
+pub enum Rest {
+    Nothing,
+    LessThanHalf,
+    Half,
+    MoreThanHalf,
 }
 
 impl Fraction {
@@ -55,6 +66,23 @@ impl Fraction {
             whole
         }
     }
+
+    /// What any rounding has to take away or to fill up.
+    pub fn rest(self) -> Rest {
+        let left_over = self.numerator.abs() % self.denominator;
+        match (2 * left_over).cmp(&self.denominator) {
+            _ if left_over == 0 => Rest::Nothing,
+            Ordering::Less => Rest::LessThanHalf,
+            Ordering::Equal => Rest::Half,
+            Ordering::Greater => Rest::MoreThanHalf,
+        }
+    }
+
+    /// The nearest whole number. A half goes to the neighbour above, on either
+    /// side of zero (document 02, ticket 3).
+    pub fn nearest_half_up(self) -> i128 {
+        Fraction::new(2 * self.numerator + self.denominator, 2 * self.denominator).floor()
+    }
 }
 
 #[cfg(test)]
@@ -83,5 +111,26 @@ mod tests {
         assert_eq!(Fraction::new(49, 100).nearest_half_away_from_zero(), 0);
         assert_eq!(Fraction::new(-151, 100).nearest_half_away_from_zero(), -2);
         assert_eq!(Fraction::new(5, -2).nearest_half_away_from_zero(), -3);
+    }
+
+    #[test]
+    fn rests_have_no_sign() {
+        for sign in [1, -1] {
+            assert_eq!(Fraction::new(6 * sign, 2).rest(), Rest::Nothing);
+            assert_eq!(Fraction::new(0, sign).rest(), Rest::Nothing);
+            assert_eq!(Fraction::new(7 * sign, 2).rest(), Rest::Half);
+            assert_eq!(Fraction::new(7 * sign, 5).rest(), Rest::LessThanHalf);
+            assert_eq!(Fraction::new(8 * sign, 5).rest(), Rest::MoreThanHalf);
+        }
+    }
+
+    #[test]
+    fn halves_go_up() {
+        assert_eq!(Fraction::new(1, 2).nearest_half_up(), 1);
+        assert_eq!(Fraction::new(-1, 2).nearest_half_up(), 0);
+        assert_eq!(Fraction::new(-3, 2).nearest_half_up(), -1);
+        assert_eq!(Fraction::new(49, 100).nearest_half_up(), 0);
+        assert_eq!(Fraction::new(-51, 100).nearest_half_up(), -1);
+        assert_eq!(Fraction::new(-6, 2).nearest_half_up(), -3);
     }
 }

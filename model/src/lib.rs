@@ -1,6 +1,7 @@
-//! A model of the panel meter, written from document 01 and from two tickets of
-//! document 02: ticket 2 changes what max and min take, ticket 5 what a number
-//! past a limit sets. Ticket 10 changes no reading, and has only its program
+//! A model of the panel meter, written from document 01 and from three tickets
+//! of document 02: ticket 2 changes what max and min take, ticket 5 what a number
+//! past a limit sets, and ticket 3 has a platinum sensor read in the place of the
+//! points. Ticket 10 changes no reading, and has only its program
 //! `rescale` here. Ticket 9 changes nothing either, and has its sentences in
 //! `sentences`, which judge a meter by its history. Ticket 12 hands readings on,
 //! and has its record and its program `historian` here.
@@ -26,6 +27,7 @@ pub mod fraction;
 pub mod historian;
 pub mod lines;
 pub mod meter;
+pub mod platinum;
 pub mod reading;
 pub mod receiver;
 pub mod record;

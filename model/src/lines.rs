@@ -5,7 +5,7 @@
 //! nothing.
 
 use crate::answer::Answer;
-use crate::config::{AlarmSettings, Configuration, Point};
+use crate::config::{AlarmSettings, Configuration, Point, Source};
 use crate::extremes::Run;
 use crate::meter::{Event, Meter, Running};
 use crate::reading::Reading;
@@ -214,6 +214,18 @@ impl Settings<'_> {
             latched: self.yes_or_no()?,
         })
     }
+
+    /// The last word, which may be left out: files from before document 02,
+    /// ticket 3 do not have it, and mean points.
+    fn source(&mut self) -> Option<Source> {
+        match self.words.next() {
+            None => Some(Source::Points),
+            Some(word) => match yes_or_no(word)? {
+                true => Some(Source::Platinum),
+                false => Some(Source::Points),
+            },
+        }
+    }
 }
 
 fn configuration(words: &[&[u8]]) -> Option<Configuration> {
@@ -245,6 +257,7 @@ fn configuration(words: &[&[u8]]) -> Option<Configuration> {
         print_max_min: settings.yes_or_no()?,
         print_total: settings.yes_or_no()?,
         print_setpoints: settings.yes_or_no()?,
+        source: settings.source()?,
     };
     match settings.words.next() {
         Some(_) => None,
@@ -252,7 +265,8 @@ fn configuration(words: &[&[u8]]) -> Option<Configuration> {
     }
 }
 
-/// The line that `configuration` reads back as the same settings.
+/// The line that `configuration` reads back as the same settings. It has the word
+/// for the source only where it must.
 pub fn configuration_line(settings: &Configuration) -> String {
     let mut words: Vec<i32> = vec![
         settings.node,
@@ -281,6 +295,9 @@ pub fn configuration_line(settings: &Configuration) -> String {
         settings.print_setpoints,
     ];
     words.extend(choices.map(i32::from));
+    if settings.source == Source::Platinum {
+        words.push(1);
+    }
     let words: Vec<String> = words.iter().map(i32::to_string).collect();
     format!("CFG {}", words.join(" "))
 }

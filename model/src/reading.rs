@@ -1,7 +1,9 @@
-//! From input to reading.
+//! From input to reading, by the points or, with document 02, ticket 3, by the
+//! curve of a platinum sensor.
 
-use crate::config::{Configuration, Point, HIGHEST_DISPLAY, LARGEST_INPUT, LOWEST_DISPLAY};
+use crate::config::{Configuration, Point, Source, HIGHEST_DISPLAY, LARGEST_INPUT, LOWEST_DISPLAY};
 use crate::fraction::Fraction;
+use crate::platinum::{curve, HIGHEST_RESISTANCE, LOWEST_RESISTANCE};
 
 /// What the meter reads.
 #[derive(Clone, Copy, PartialEq, Eq, Debug)]
@@ -13,19 +15,52 @@ pub enum Reading {
     Under,
 }
 
-/// Works the reading out of one input. An input that is too large either way
-/// never reaches the scale (From input to reading, sentence 4).
+/// What an input is read by: points with rising inputs, and the inputs beyond
+/// which none is read.
+struct Scale<'a> {
+    points: &'a [Point],
+    lowest_input: i32,
+    highest_input: i32,
+}
+
+/// The scale of the source that the configuration names. The limits of one source
+/// do not apply to the other (From input to reading, sentence 4; document 02,
+/// ticket 3).
+fn scale_of(configuration: &Configuration) -> Scale<'_> {
+    match configuration.source {
+        Source::Points => Scale {
+            points: configuration.points_in_use(),
+            lowest_input: -LARGEST_INPUT,
+            highest_input: LARGEST_INPUT,
+        },
+        Source::Platinum => Scale {
+            points: curve(),
+            lowest_input: LOWEST_RESISTANCE,
+            highest_input: HIGHEST_RESISTANCE,
+        },
+    }
+}
+
+/// Works the reading out of one input. An input beyond the limits never reaches
+/// the points; from there on the source makes no difference (From input to
+/// reading, sentence 4; document 02, ticket 3).
 pub fn reading_of(configuration: &Configuration, input: i32) -> Reading {
-    if input > LARGEST_INPUT {
+    let scale = scale_of(configuration);
+    if input > scale.highest_input {
         return Reading::Over;
     }
-    if input < -LARGEST_INPUT {
+    if input < scale.lowest_input {
         return Reading::Under;
     }
-    let (left, right) = segment_for(configuration.points_in_use(), input);
-    let whole = line_at(left, right, input).nearest_half_away_from_zero();
+    let whole = height_over(scale.points, input).nearest_half_away_from_zero();
     let stepped = to_step(whole, i128::from(configuration.rounding));
     within_display(stepped)
+}
+
+/// What the points show at an input, before any rounding.
+pub fn height_over(points: &[Point], input: i32) -> Fraction {
+    let (left, right) = segment_for(points, input);
+    line_at(left, right, input)
 }
 
 /// Goes along the segments from the left and stops at the one that the input

@@ -1,7 +1,8 @@
 //! The program `rescale` (document 02, ticket 10): the first line is a
 //! configuration, every line behind it an input, and each input's reading is
-//! printed. This one reads by the points, as a meter's sample does; that a core
-//! reads by segments is no reason for another number.
+//! printed. This one reads by the source that the configuration names, as a
+//! meter's sample does; that a core reads by segments, or by a stored table, is no
+//! reason for another number.
 
 use crate::answer::Answer;
 use crate::config::Configuration;

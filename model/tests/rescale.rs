@@ -167,7 +167,7 @@ fn a_refused_configuration_prints_its_rule_and_nothing_more() {
 #[test]
 fn without_a_configuration_no_line_is_understood() {
     let good = configuration_line(&straight());
-    let longer = format!("{good} 0");
+    let longer = format!("{good} 0 0");
     let indented = format!(" {good}");
     let past = good.replacen("CFG 0", "CFG 2147483648", 1);
     let eleven_digits = good.replacen("CFG 0", "CFG 00000000000", 1);

@@ -50,7 +50,8 @@ fn difference(output: &Output) -> Vec<String> {
 fn the_model_agrees_with_itself() {
     let output = rescaled(&["--rescale", MODEL, "rescale", "--replay", MODEL]);
     assert!(output.status.success(), "{}", text(&output));
-    assert!(text(&output).contains("readings compared: 200000 "));
+    assert!(text(&output).contains("readings compared: 400000 "));
+    assert!(text(&output).contains("\nplatinum: inputs 200000 "));
     assert!(text(&output).ends_with("no difference\n"));
 }
 

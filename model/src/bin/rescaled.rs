@@ -16,7 +16,8 @@ reading that each of them and the model give to every input. All words between
 second. Some lines are no input, and go to the first command only.
 
   --seed N             the seed, 1 if not given
-  --configurations N   how many configurations, 20 if not given
+  --configurations N   how many configurations with points, and how many of
+                       platinum meters, 20 if not given
   --inputs N           how many inputs for each, 10000 if not given
 
 Ends with 0 where no reading differs, with 1 where one does, and with 2 where it

@@ -2,7 +2,9 @@
 //! fail to, or are cut off on the way.
 
 use super::random::Random;
-use super::samples::{any_input, input_near, interesting_display, near_run_length, one_side};
+use super::samples::{
+    any_input, input_near, interesting_display, near_run_length, one_side, over, under,
+};
 use super::script::Script;
 use super::strings;
 use crate::config::samples_needed;
@@ -67,8 +69,8 @@ fn cut_off_run(script: &mut Script, side: Side, start: i64) -> i64 {
     let last = run_along(script, &inputs, length as usize);
     match script.random.below(7) {
         0 => script.sample(start),
-        1 => script.sample(100_000),
-        2 => script.sample(-100_000),
+        1 => script.sample(over(script)),
+        2 => script.sample(under(script)),
         3 | 4 => reset(script, other_side(side)),
         _ => {
             reset(script, side);

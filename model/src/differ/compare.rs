@@ -140,7 +140,7 @@ fn run_model(model: &mut Replay, text: &[u8], tally: &mut Tally) -> Vec<u8> {
     let mut expected = Vec::new();
     for line in lines_of(text) {
         let outcome = model.line(line, &mut expected);
-        tally.count(outcome, model);
+        tally.count(line, outcome, model);
     }
     expected
 }
@@ -170,7 +170,7 @@ fn parted(chunk: &Chunk, line: usize, mut model: Replay, mut tally: Tally) -> Co
     let mut unused = Vec::new();
     for text in lines_of(&chunk.text).take(line + 1) {
         let outcome = model.line(text, &mut unused);
-        tally.count(outcome, &model);
+        tally.count(text, outcome, &model);
         unused.clear();
     }
     let (history, _) = chunk

@@ -1,7 +1,7 @@
 //! Whole histories. Each begins with a power-up of its own and depends on the
 //! seed and its number alone.
 
-use super::broken::{bad_line, break_one_rule};
+use super::broken::{bad_line, bad_source_line, break_one_rule};
 use super::captures;
 use super::floods;
 use super::limits;
@@ -9,9 +9,10 @@ use super::places::any_place;
 use super::random::Random;
 use super::samples;
 use super::script::Script;
-use super::settings::good_settings;
+use super::settings::{good_settings, settings_with_source};
 use super::status;
 use super::strings;
+use crate::config::Source;
 
 /// About how many bytes of text a plain history has.
 const PLAIN_LENGTH: usize = 1_600;
@@ -48,6 +49,10 @@ fn plain_history(mut random: Random, wanted: Wanted, first_of_all: bool) -> Vec<
         }
     }
     new_power_up(&mut script);
+    if wanted.bad_lines && script.random.one_in(8) {
+        let line = bad_source_line(&mut script.random, &script.settings);
+        script.line(&line);
+    }
     while script.length() < PLAIN_LENGTH {
         any_action(&mut script, wanted);
         if script.random.one_in(150) {
@@ -57,13 +62,30 @@ fn plain_history(mut random: Random, wanted: Wanted, first_of_all: bool) -> Vec<
     script.into_text()
 }
 
-/// A power-up, at times with a read of the status register at once, since no
-/// other line shows what the meter before may have left in it.
+/// A power-up, at times right behind one with the other source. At times the
+/// status register is read at once, since no other line shows what the meter
+/// before may have left in it.
 fn new_power_up(script: &mut Script) {
     let settings = good_settings(&mut script.random);
+    if script.random.one_in(6) {
+        power_up_with_the_other_source(script, settings.source);
+    }
     script.power_up(settings);
     if script.random.one_in(8) {
         status::read_status(script);
+    }
+}
+
+/// A power-up with a source that is not this one, and at times a few samples.
+fn power_up_with_the_other_source(script: &mut Script, source: Source) {
+    let other = match source {
+        Source::Points => Source::Platinum,
+        Source::Platinum => Source::Points,
+    };
+    let settings = settings_with_source(&mut script.random, other);
+    script.power_up(settings);
+    if script.random.one_in(2) {
+        samples::loose_samples(script);
     }
 }
 
@@ -82,7 +104,7 @@ fn refused_power_up(script: &mut Script) {
     let good = good_settings(&mut script.random);
     let mut broken = good.clone();
     break_one_rule(&mut script.random, &mut broken);
-    if script.random.one_in(4) && (2..=16).contains(&broken.point_count) {
+    if script.random.one_in(3) {
         break_one_rule(&mut script.random, &mut broken);
     }
     script.power_up(broken);
@@ -102,7 +124,7 @@ fn any_action(script: &mut Script, wanted: Wanted) {
     }
     match script
         .random
-        .weighted(&[14, 16, 8, 10, 22, 9, 7, 5, 5, 5, 5, 6, 9, 3, 3, 4, 1])
+        .weighted(&[14, 16, 8, 10, 22, 9, 7, 5, 5, 5, 5, 6, 9, 3, 3, 4, 4, 1])
     {
         0 => samples::loose_samples(script),
         1 => samples::excursion(script),
@@ -120,6 +142,7 @@ fn any_action(script: &mut Script, wanted: Wanted) {
         13 => limits::codes(script),
         14 => limits::held_within_a_run(script),
         15 => status::status_behind_events(script),
+        16 => samples::along_the_scale(script),
         _ if wanted.bad_lines => {
             let line = bad_line(&mut script.random, &script.settings);
             script.line(&line);

@@ -1,13 +1,16 @@
 //! Lines for a program that reads inputs: numbers around the points and the
-//! limits of a scale, and lines that are no number.
+//! limits of a scale, or around a platinum sensor's whole degrees and tenths, and
+//! lines that are no number.
 
 use super::broken::bad_line;
 use super::random::Random;
-use super::samples::{input_at_points, input_near, limit_input};
+use super::resistances;
+use super::samples::{input_near, input_on_the_scale, limit_input};
 use super::script::Script;
 use super::settings::good_settings;
-use crate::config::{Configuration, HIGHEST_DISPLAY, LARGEST_INPUT, LOWEST_DISPLAY};
+use crate::config::{Configuration, Source, HIGHEST_DISPLAY, LARGEST_INPUT, LOWEST_DISPLAY};
 use crate::lines::configuration_line;
+use crate::platinum::curve;
 
 /// One line behind the configuration.
 #[derive(Clone, PartialEq, Eq, Debug)]
@@ -51,9 +54,25 @@ pub fn lines_for(random: Random, settings: &Configuration, inputs: usize) -> Vec
     lines
 }
 
+fn certain_inputs(settings: &Configuration) -> Vec<i32> {
+    match settings.source {
+        Source::Points => certain_inputs_of_points(settings),
+        Source::Platinum => certain_resistances(),
+    }
+}
+
+/// The limits, each whole degree's resistance, and all exact halves of a tenth.
+fn certain_resistances() -> Vec<i32> {
+    let limits = resistances::LIMITS.iter().map(|input| *input as i32);
+    let degrees = curve().iter().map(|point| point.input);
+    let halves = resistances::exact_halves();
+    let halves = halves.iter().map(|input| *input as i32);
+    limits.chain(degrees).chain(halves).collect()
+}
+
 /// Every point's input and those beside it, the middle of every segment, 0 and
 /// the limits of input with those beside them, and the ends of 32 bits.
-fn certain_inputs(settings: &Configuration) -> Vec<i32> {
+fn certain_inputs_of_points(settings: &Configuration) -> Vec<i32> {
     let points = settings.points_in_use();
     let mut inputs = Vec::new();
     for point in points {
@@ -84,12 +103,35 @@ fn any_input(script: &mut Script) -> i32 {
             .random
             .between(i64::from(i32::MIN), i64::from(i32::MAX)),
         2 => script.random.between(-100_001, 100_001),
-        3 | 4 => input_at_points(script),
-        5 => input_at_an_end_of_the_display(script),
-        6 => input_beyond_the_points(script),
-        _ => input_in_a_segment(script),
+        3 | 4 => input_on_the_scale(script),
+        _ => match script.settings.source {
+            Source::Points => input_by_points(script),
+            Source::Platinum => any_resistance(script),
+        },
     };
     input.clamp(i64::from(i32::MIN), i64::from(i32::MAX)) as i32
+}
+
+fn input_by_points(script: &mut Script) -> i64 {
+    match script.random.below(5) {
+        0 => input_at_an_end_of_the_display(script),
+        1 => input_beyond_the_points(script),
+        _ => input_in_a_segment(script),
+    }
+}
+
+/// Anywhere, around where a tenth ends, or around where a step does.
+fn any_resistance(script: &mut Script) -> i64 {
+    match script.random.below(3) {
+        0 => resistances::anywhere(&mut script.random),
+        1 => resistances::on_the_curve(&mut script.random),
+        _ => {
+            let step = i64::from(script.settings.rounding);
+            let steps = script.random.between(-2_000 / step, 8_500 / step);
+            let beside = script.random.between(-1, 1);
+            resistances::near(steps * step + step / 2) + beside
+        }
+    }
 }
 
 /// Near where the reading becomes Over or Under, as far off as the greatest step
@@ -182,13 +224,17 @@ fn spoilt_number(random: &mut Random) -> Vec<u8> {
 
 #[cfg(test)]
 mod tests {
-    use super::super::scales::settings_in_turn;
+    use super::super::scales::{platinum_settings_in_turn, settings_in_turn};
     use super::*;
     use crate::lines::number;
 
+    /// By the points for an even seed, by a platinum sensor for an odd one.
     fn some_lines(seed: u64) -> Vec<Fed> {
         let mut random = Random::for_history(seed, 0);
-        let settings = settings_in_turn(&mut random, seed);
+        let settings = match seed % 2 {
+            0 => settings_in_turn(&mut random, seed),
+            _ => platinum_settings_in_turn(&mut random, seed),
+        };
         lines_for(random, &settings, 2_000)
     }
 
@@ -216,8 +262,10 @@ mod tests {
                 .filter(|line| matches!(line, Fed::Input { .. }))
                 .count()
         };
-        let lines = some_lines(1);
-        assert_eq!(inputs(&lines), 2_000);
-        assert!(lines.len() > 2_000);
+        for seed in [1, 2] {
+            let lines = some_lines(seed);
+            assert_eq!(inputs(&lines), 2_000);
+            assert!(lines.len() > 2_000);
+        }
     }
 }

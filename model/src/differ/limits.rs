@@ -2,7 +2,7 @@
 //! and runs of an alarm in the middle of which its setpoint is held to a limit.
 
 use super::random::Random;
-use super::samples::{input_near, interesting_display, near_run_length};
+use super::samples::{input_near, interesting_display, near_run_length, over, under};
 use super::script::Script;
 use super::strings;
 
@@ -10,10 +10,6 @@ use super::strings;
 pub const LOWEST_SETPOINT: i64 = -19_999;
 pub const HIGHEST_SETPOINT: i64 = 99_999;
 const HIGHEST_CODE: i64 = 4_095;
-
-/// An input that reads Under, and one that reads Over.
-pub const UNDER: i64 = -100_000;
-pub const OVER: i64 = 100_000;
 
 /// A number for a setpoint at or beside a limit, or past it. The 0 is what the
 /// first number past the highest limit comes to, and the first past five digits
@@ -77,11 +73,11 @@ pub fn set_status(script: &mut Script, byte: u8) {
 pub fn held_within_a_run(script: &mut Script) {
     let alarm = script.random.below(4);
     let settings = script.settings.alarms[alarm];
-    let above = input_above(script);
+    let (below, above) = (under(script), input_above(script));
     let (on_side, off_side) = if settings.low_acting {
-        (UNDER, above)
+        (below, above)
     } else {
-        (above, UNDER)
+        (above, below)
     };
     if script.random.one_in(2) {
         strings::own_string(script, &[b'R', b"EFGH"[alarm]]);
@@ -120,7 +116,7 @@ fn near_the_lowest(random: &mut Random) -> i64 {
 /// An input that reads more than a setpoint at its lowest, or nearly always so.
 fn input_above(script: &mut Script) -> i64 {
     if script.random.one_in(4) {
-        OVER
+        over(script)
     } else {
         input_of_a_number(script)
     }

@@ -6,8 +6,9 @@ use super::inputs::{lines_for, Fed};
 use super::other::run_once;
 use super::random::Random;
 use super::scale_tally::ScaleTally;
-use super::scales::settings_in_turn;
+use super::scales::{platinum_settings_in_turn, settings_in_turn};
 use super::written::{Said, Written, LONGEST_LINE};
+use crate::config::Configuration;
 use crate::lines::configuration_line;
 use crate::rescale::Rescale;
 use std::io;
@@ -20,6 +21,7 @@ const INPUTS_BEHIND_NOTHING: usize = 30;
 #[derive(Clone, Copy, PartialEq, Eq, Debug)]
 pub struct Wanted {
     pub seed: u64,
+    /// With points, and as many of platinum meters.
     pub configurations: u64,
     /// For each configuration.
     pub inputs: usize,
@@ -84,11 +86,21 @@ struct Session {
     lines: Vec<Fed>,
 }
 
-/// One session with a good configuration, one with a broken one and one without
-/// any. They depend on the seed and the number alone.
-fn sessions(wanted: Wanted, number: u64) -> [Session; 3] {
+/// The sessions of the points with this number, and of the platinum meter with the
+/// same number. They depend on the seed and the number alone.
+fn sessions(wanted: Wanted, number: u64) -> Vec<Session> {
     let mut random = Random::for_history(wanted.seed, number);
-    let good = settings_in_turn(&mut random, number);
+    let points = settings_in_turn(&mut random, number);
+    let by_points = sessions_with(wanted, random, points);
+    let mut random = Random::for_history(!wanted.seed, number);
+    let platinum = platinum_settings_in_turn(&mut random, number);
+    let by_platinum = sessions_with(wanted, random, platinum);
+    by_points.into_iter().chain(by_platinum).collect()
+}
+
+/// One session with a good configuration, one with a broken one and one without
+/// any.
+fn sessions_with(wanted: Wanted, mut random: Random, good: Configuration) -> [Session; 3] {
     let mut broken = good.clone();
     break_one_rule(&mut random, &mut broken);
     let none = bad_line(&mut random, &good);

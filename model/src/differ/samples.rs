@@ -1,9 +1,10 @@
-//! Samples around setpoints, points and limits, and runs that complete or
-//! just fail to.
+//! Samples around setpoints, points, whole degrees and limits, and runs that
+//! complete or just fail to.
 
+use super::resistances;
 use super::script::Script;
 use super::strings;
-use crate::config::Point;
+use crate::config::{Point, Source};
 
 /// Longer delays than this are left to the floods.
 const LONGEST_RUN: i64 = 90;
@@ -21,12 +22,22 @@ pub fn loose_samples(script: &mut Script) {
     }
 }
 
-/// Any input: at a limit, at a point, or near an interesting display.
+/// Many inputs of the scale itself, so that a platinum meter's entry which is off
+/// by one shows. Few inputs read another number for it.
+pub fn along_the_scale(script: &mut Script) {
+    for _ in 0..script.random.between(10, 40) {
+        let input = input_on_the_scale(script);
+        script.sample(input);
+    }
+}
+
+/// Any input: at a limit, at a point or a whole degree, anywhere, or near an
+/// interesting display.
 pub fn any_input(script: &mut Script) -> i64 {
     match script.random.below(10) {
         0 => limit_input(script),
-        1 | 2 => input_at_points(script),
-        3 => script.random.between(-30, 30),
+        1 | 2 => input_on_the_scale(script),
+        3 => input_anywhere(script),
         _ => {
             let display = interesting_display(script);
             input_near(script, display)
@@ -36,6 +47,9 @@ pub fn any_input(script: &mut Script) -> i64 {
 
 /// At a limit of the input, beside it, or at an end of 32 bits.
 pub fn limit_input(script: &mut Script) -> i64 {
+    if is_platinum(script) {
+        return resistances::at_a_limit(&mut script.random);
+    }
     script.random.pick(&[
         99_999,
         -99_999,
@@ -49,8 +63,39 @@ pub fn limit_input(script: &mut Script) -> i64 {
     ])
 }
 
-/// At a point's input, beside it, or half way to the next.
-pub fn input_at_points(script: &mut Script) -> i64 {
+fn input_anywhere(script: &mut Script) -> i64 {
+    match script.settings.source {
+        Source::Points => script.random.between(-30, 30),
+        Source::Platinum => resistances::anywhere(&mut script.random),
+    }
+}
+
+/// An input that reads Over, the first that does for its value alone.
+pub fn over(script: &Script) -> i64 {
+    match script.settings.source {
+        Source::Points => 100_000,
+        Source::Platinum => resistances::FIRST_OVER,
+    }
+}
+
+/// An input that reads Under, the first that does for its value alone.
+pub fn under(script: &Script) -> i64 {
+    match script.settings.source {
+        Source::Points => -100_000,
+        Source::Platinum => resistances::FIRST_UNDER,
+    }
+}
+
+fn is_platinum(script: &Script) -> bool {
+    script.settings.source == Source::Platinum
+}
+
+/// At a point's input or a whole degree's resistance, beside it, or half way to
+/// the next.
+pub fn input_on_the_scale(script: &mut Script) -> i64 {
+    if is_platinum(script) {
+        return resistances::on_the_curve(&mut script.random);
+    }
     let points = points_in_use(script);
     let point = i64::from(script.random.pick(&points).input);
     let other = i64::from(script.random.pick(&points).input);
@@ -62,7 +107,8 @@ pub fn input_at_points(script: &mut Script) -> i64 {
     }
 }
 
-/// The points that a good configuration uses; a refused one is never aimed by.
+/// The points that a good configuration uses; a refused one is never aimed by,
+/// nor is a platinum meter's.
 fn points_in_use(script: &Script) -> Vec<Point> {
     let count = script.settings.point_count.clamp(2, 16) as usize;
     script.settings.points[..count].to_vec()
@@ -80,6 +126,7 @@ pub fn interesting_display(script: &mut Script) -> i64 {
         5 => i64::from(script.settings.low_cut),
         6 => i64::from(script.settings.analog_low),
         7 => i64::from(script.settings.analog_high),
+        8 if is_platinum(script) => script.random.pick(&[8_500, -2_000, 0]),
         8 => script.random.pick(&[99_999, -19_999, 0]),
         _ => script.random.between(-500, 500),
     };
@@ -97,6 +144,9 @@ fn small_step(script: &mut Script) -> i64 {
 /// An input whose reading lies at or near the display, where the scale
 /// reaches it.
 pub fn input_near(script: &mut Script, display: i64) -> i64 {
+    if is_platinum(script) {
+        return resistances::near(display);
+    }
     let points = points_in_use(script);
     let segments = points.len() - 1;
     let first = script.random.below(segments);

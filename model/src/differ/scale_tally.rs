@@ -1,7 +1,8 @@
 //! What a run of `rescaled` has reached: readings, and where their inputs lay.
 
+use super::curve_tally::CurveTally;
 use super::inputs::Fed;
-use crate::config::{Configuration, LARGEST_INPUT};
+use crate::config::{Configuration, Source, LARGEST_INPUT};
 use crate::reading::{reading_of, Reading};
 use crate::rescale::Rescale;
 use std::fmt;
@@ -35,6 +36,8 @@ pub struct ScaleTally {
     left_of_all: u64,
     right_of_all: u64,
     segments: [u64; 15],
+    platinum_accepted: u64,
+    platinum: CurveTally,
 }
 
 impl ScaleTally {
@@ -52,6 +55,9 @@ impl ScaleTally {
             Rescale::AtTheFirstLine => unreachable!("the first line has come"),
         };
         *kind += 1;
+        if matches!(model, Rescale::Accepted(settings) if settings.source == Source::Platinum) {
+            self.platinum_accepted += 1;
+        }
     }
 
     /// Counts a line behind an accepted configuration.
@@ -66,13 +72,21 @@ impl ScaleTally {
 
     fn count_input(&mut self, settings: &Configuration, input: i32) {
         self.readings += 1;
-        let kind = match reading_of(settings, input) {
+        let reading = reading_of(settings, input);
+        let kind = match reading {
             Reading::Number(_) => &mut self.numbers,
             Reading::Over => &mut self.over,
             Reading::Under => &mut self.under,
             Reading::Nothing => unreachable!("every input has a reading"),
         };
         *kind += 1;
+        match settings.source {
+            Source::Points => self.count_place(settings, input),
+            Source::Platinum => self.platinum.count(input, reading),
+        }
+    }
+
+    fn count_place(&mut self, settings: &Configuration, input: i32) {
         let place = match place_of(settings, input) {
             Place::TooLow => &mut self.too_low,
             Place::TooHigh => &mut self.too_high,
@@ -104,23 +118,24 @@ impl fmt::Display for ScaleTally {
     fn fmt(&self, out: &mut fmt::Formatter) -> fmt::Result {
         writeln!(
             out,
-            "configurations: accepted {}, refused {}; first lines that were none: {}",
-            self.accepted, self.refused, self.without_configuration
+            "configurations: accepted {} (platinum {}), refused {}; first lines that were none: {}",
+            self.accepted, self.platinum_accepted, self.refused, self.without_configuration
         )?;
         writeln!(
             out,
             "readings compared: {} (numbers {}, OL {}, UL {}); lines that were no input: {}",
             self.readings, self.numbers, self.over, self.under, self.no_inputs
         )?;
-        write!(out, "inputs in each segment:")?;
+        write!(out, "points: inputs in each segment:")?;
         for (index, count) in self.segments.iter().enumerate() {
             write!(out, " {}: {count}", index + 1)?;
         }
         writeln!(
             out,
-            "\ninputs left of all points {}, right of all {}; below the lowest input {}, above the highest {}",
+            "\npoints: inputs left of all {}, right of all {}; below the lowest input {}, above the highest {}",
             self.left_of_all, self.right_of_all, self.too_low, self.too_high
-        )
+        )?;
+        writeln!(out, "platinum: {}", self.platinum)
     }
 }
 

@@ -1,8 +1,9 @@
 //! Good configurations whose scales come in turn, so that a few of them hold
-//! every number of points, every rounding step and every shape.
+//! every number of points, every rounding step and every shape, and others of
+//! platinum meters that hold every step as well.
 
 use super::random::Random;
-use super::settings::{any_display, settings_with_points, STEPS};
+use super::settings::{any_display, platinum_settings, settings_with_points, STEPS};
 use crate::config::{Configuration, Point, HIGHEST_DISPLAY, LARGEST_INPUT, LOWEST_DISPLAY};
 
 /// How many numbers of points there are, from 16 down to 2.
@@ -16,13 +17,25 @@ const SHAPES: u64 = 8;
 pub fn settings_in_turn(random: &mut Random, number: u64) -> Configuration {
     let point_count = 16 - (number % POINT_COUNTS) as i32;
     let mut settings = settings_with_points(random, point_count);
-    settings.rounding = STEPS[(number % STEPS.len() as u64) as usize];
+    settings.rounding = step_in_turn(number);
     give_shape(
         random,
         &mut settings.points[..point_count as usize],
         number % SHAPES,
     );
     settings
+}
+
+/// The configuration of a platinum meter with this number, counted from 0.
+pub fn platinum_settings_in_turn(random: &mut Random, number: u64) -> Configuration {
+    Configuration {
+        rounding: step_in_turn(number),
+        ..platinum_settings(random)
+    }
+}
+
+fn step_in_turn(number: u64) -> i32 {
+    STEPS[(number % STEPS.len() as u64) as usize]
 }
 
 /// Shapes the points in use. Two shapes leave them as they were made.
@@ -128,6 +141,12 @@ mod tests {
             .collect()
     }
 
+    fn usual_platinum_settings(seed: u64) -> Vec<Configuration> {
+        (0..USUAL)
+            .map(|number| platinum_settings_in_turn(&mut Random::for_history(seed, number), number))
+            .collect()
+    }
+
     /// Whether the points of some scale are such.
     fn some_scale(settings: &[Configuration], such: impl Fn(&[Point]) -> bool) -> bool {
         settings.iter().any(|one| such(one.points_in_use()))
@@ -158,6 +177,21 @@ mod tests {
             for settings in usual_settings(seed) {
                 assert_eq!(settings.first_broken_rule(), None);
             }
+            for settings in usual_platinum_settings(seed) {
+                assert_eq!(settings.first_broken_rule(), None);
+            }
+        }
+    }
+
+    #[test]
+    fn platinum_comes_with_every_step_and_with_counts_that_points_cannot_have() {
+        for seed in 0..50 {
+            let settings = usual_platinum_settings(seed);
+            for step in STEPS {
+                assert!(settings.iter().any(|one| one.rounding == step));
+            }
+            assert!(settings.iter().any(|one| one.point_count < 2));
+            assert!(settings.iter().any(|one| one.point_count > 16));
         }
     }
 

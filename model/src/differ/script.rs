@@ -2,7 +2,7 @@
 //! to know in order to aim well.
 
 use super::random::Random;
-use crate::config::Configuration;
+use crate::config::{Configuration, Source};
 use crate::lines::configuration_line;
 use crate::reading::{reading_of, Reading};
 
@@ -44,9 +44,14 @@ impl Script {
         self.text.push(b'\n');
     }
 
-    /// Powers up with these settings, and aims by them from now on.
+    /// Powers up with these settings, and aims by them from now on. Points are
+    /// named at times, and at times go without saying.
     pub fn power_up(&mut self, settings: Configuration) {
-        self.line(&configuration_line(&settings));
+        let mut line = configuration_line(&settings);
+        if settings.source == Source::Points && self.random.one_in(2) {
+            line += " 0";
+        }
+        self.line(&line);
         self.setpoints = [0, 1, 2, 3].map(|alarm| settings.alarms[alarm].setpoint);
         self.settings = settings;
     }

@@ -1,27 +1,71 @@
 //! Random configurations that break no rule.
 
 use super::random::Random;
-use crate::config::{AlarmSettings, Configuration, Point, HIGHEST_DISPLAY, LOWEST_DISPLAY};
+use crate::config::{AlarmSettings, Configuration, Point, Source, HIGHEST_DISPLAY, LOWEST_DISPLAY};
+use crate::platinum::PLACES;
 
-/// A good configuration. Ends of ranges come often, and delays are mostly so
-/// small that they complete.
+/// A good configuration of a meter with points or, once in three times, of a
+/// platinum meter. Ends of ranges come often, and delays are mostly so small that
+/// they complete.
 pub fn good_settings(random: &mut Random) -> Configuration {
-    let point_count = point_count(random);
-    settings_with_points(random, point_count)
+    let source = random.pick(&[Source::Points, Source::Points, Source::Platinum]);
+    settings_with_source(random, source)
 }
 
-/// The same with so many points in use.
+/// The same with this source.
+pub fn settings_with_source(random: &mut Random, source: Source) -> Configuration {
+    match source {
+        Source::Points => {
+            let point_count = point_count(random);
+            settings_with_points(random, point_count)
+        }
+        Source::Platinum => platinum_settings(random),
+    }
+}
+
+/// A meter with so many points in use.
 pub fn settings_with_points(random: &mut Random, point_count: i32) -> Configuration {
     let points = points(random, point_count as usize);
     let near = middle_display(&points[..point_count as usize]);
+    Configuration {
+        point_count,
+        points,
+        ..settings_around(random, near)
+    }
+}
+
+/// A platinum meter, with points that nobody may look at. Most are such that no
+/// meter could read by them; the others show whether one does.
+pub fn platinum_settings(random: &mut Random) -> Configuration {
+    let (point_count, points) = if random.one_in(4) {
+        let point_count = point_count(random);
+        (point_count, points(random, point_count as usize))
+    } else {
+        (
+            any_point_count(random),
+            [(); 16].map(|_| unused_point(random)),
+        )
+    };
+    let near = tenths_of_a_degree(random);
+    Configuration {
+        source: Source::Platinum,
+        input_places: PLACES,
+        point_count,
+        points,
+        ..settings_around(random, near)
+    }
+}
+
+/// Settings whose displays crowd around this one. No point is in use.
+fn settings_around(random: &mut Random, near: i32) -> Configuration {
     let (analog_low, analog_high) = analog_ends(random, near);
     Configuration {
         node: node(random),
         input_places: random.setting(0, 4),
         total_places: random.setting(0, 4),
         rounding: rounding(random),
-        point_count,
-        points,
+        point_count: 0,
+        points: [Point::default(); 16],
         scale_factor: scale_factor(random),
         time_base: random.pick(&[1, 1, 60, 60, 3_600, 86_400]),
         low_cut: low_cut(random, near),
@@ -35,14 +79,14 @@ pub fn settings_with_points(random: &mut Random, point_count: i32) -> Configurat
         print_max_min: random.one_in(2),
         print_total: random.one_in(2),
         print_setpoints: random.one_in(2),
+        source: Source::Points,
     }
 }
 
 /// The scale that shows the input itself, where floods must aim exactly.
 pub fn straight_settings(random: &mut Random) -> Configuration {
-    let mut settings = good_settings(random);
+    let mut settings = settings_with_points(random, 2);
     settings.rounding = 1;
-    settings.point_count = 2;
     settings.points[0] = point(LOWEST_DISPLAY, LOWEST_DISPLAY);
     settings.points[1] = point(HIGHEST_DISPLAY, HIGHEST_DISPLAY);
     settings
@@ -78,6 +122,25 @@ fn point_count(random: &mut Random) -> i32 {
         0 | 1 => 2,
         2 => random.pick(&[3, 15, 16]),
         _ => random.setting(2, 16),
+    }
+}
+
+/// A number of points for a platinum meter, which takes any.
+fn any_point_count(random: &mut Random) -> i32 {
+    match random.below(4) {
+        0 => random.setting(2, 16),
+        1 => random.pick(&[i32::MIN, -3, -1, 18, 255, 256, 65_538, i32::MAX]),
+        _ => random.pick(&[0, 1, 17]),
+    }
+}
+
+/// A display that a platinum meter can reach. Both ends and zero come often.
+fn tenths_of_a_degree(random: &mut Random) -> i32 {
+    match random.below(5) {
+        0 => random.pick(&[-2_000, 8_500]),
+        1 => 0,
+        2 => random.setting(-2_000, 0),
+        _ => random.setting(-2_000, 8_500),
     }
 }
 

@@ -2,8 +2,8 @@
 //! must not, in both modes. A meter that keeps the number may be wrong until the
 //! next sample stores it anew, so that nothing comes between.
 
-use super::limits::{code_at_a_limit, set_status, HIGHEST_SETPOINT, OVER, UNDER};
-use super::samples::{any_input, near_run_length};
+use super::limits::{code_at_a_limit, set_status, HIGHEST_SETPOINT};
+use super::samples::{any_input, near_run_length, over, under};
 use super::script::Script;
 use super::strings;
 
@@ -36,7 +36,11 @@ fn turn_alarms_on(script: &mut Script) {
     let alarm = script.random.below(4);
     let settings = script.settings.alarms[alarm];
     let length = near_run_length(script, settings.on_delay);
-    let input = if settings.low_acting { UNDER } else { OVER };
+    let input = if settings.low_acting {
+        under(script)
+    } else {
+        over(script)
+    };
     script.samples(input, length);
 }
 

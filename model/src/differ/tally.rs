@@ -1,6 +1,7 @@
 //! What a run has reached: events, answers, broken rules and states.
 
 use super::run_tally::RunTally;
+use super::source_tally::SourceTally;
 use super::write_tally::WriteTally;
 use crate::analog::Mode;
 use crate::answer::{Answer, ANSWER_NAMES};
@@ -33,6 +34,7 @@ pub struct Tally {
     min_runs: RunTally,
     both_runs: u64,
     writes: WriteTally,
+    sources: SourceTally,
     last_alarms: [bool; 4],
     last_extremes: Option<(Reading, Reading)>,
 }
@@ -44,7 +46,10 @@ impl Tally {
     }
 
     /// Counts one line that the model has carried out.
-    pub fn count(&mut self, outcome: Outcome, replay: &Replay) {
+    pub fn count(&mut self, line: &[u8], outcome: Outcome, replay: &Replay) {
+        if !matches!(outcome, Outcome::Carried(..)) {
+            self.sources.count_line(line, outcome);
+        }
         match outcome {
             Outcome::NotUnderstood => self.not_understood += 1,
             Outcome::PoweredUp(answer) => self.count_power_up(answer),
@@ -94,6 +99,10 @@ impl Tally {
         let both = running.max.run().is_some() && running.min.run().is_some();
         self.both_runs += u64::from(both);
         self.writes.count(event, running);
+        if let Event::Sample(_) = event {
+            self.sources
+                .count_sample(&running.configuration, running.reading);
+        }
     }
 }
 
@@ -142,6 +151,7 @@ impl fmt::Display for Tally {
             "events left with both runs going on: {}",
             self.both_runs
         )?;
-        writeln!(out, "{}", self.writes)
+        writeln!(out, "{}", self.writes)?;
+        writeln!(out, "{}", self.sources)
     }
 }
