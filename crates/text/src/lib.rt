@@ -3,6 +3,7 @@
 // A line that is being read is an array of `KEPT` bytes that the caller lends, and a count. With the count at most `KEPT` the line is
 // that many bytes of the array, and any greater count is the one state "too long". So every pair of them means something, and no
 // condition has to travel with it.
+#![tactic(auto)]
 pub mod output;
 
 ghost use Rattle.std.specs.Prelude.{◌≡◌, ◌≤◌, length};
