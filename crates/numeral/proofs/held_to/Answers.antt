@@ -27,20 +27,20 @@ high s = search rules
 
 pub returns-then-z-limits : goal.returns-then-z-limits
 returns-then-z-limits c =
-    let s = c.before.before.before.before in
-    ap Held (low s) ∙ sym (below s.args.limits s.args.z (simp (to_z-of_z s.ranges.z, low s) at c.if-z-limits.true))
+    let s = c in
+    ap Held (low s.before.before.before.before) ∙ sym (below s.args.limits s.args.z (simp (to_z-of_z s.ranges.z, low s.before.before.before.before) at c.if-z-limits.true))
 
 not_below : (c : Else-z-limits) → lt_z c.args.z c.args.limits.low ≡ false
-not_below c = let s = c.before.before.before in simp (to_z-of_z s.ranges.z, low s) at c.if-z-limits.false
+not_below c = let s = c in simp (to_z-of_z s.ranges.z, low s.before.before.before) at c.if-z-limits.false
 
 pub returns-then-limits-z : goal.returns-then-limits-z
 returns-then-limits-z c =
-    let e = c.before.before.before.before in
-    let s = e.before.before.before in
-    ap Held (high s) ∙ sym (above s.args.limits s.args.z (not_below e) (simp (to_z-of_z s.ranges.z, high s) at c.if-limits-z.true))
+    let e = c in
+    let s = e in
+    ap Held (high s.before.before.before.before.before.before.before) ∙ sym (above s.args.limits s.args.z (not_below e.before.before.before.before) (simp (to_z-of_z s.ranges.z, high s.before.before.before.before.before.before.before) at c.if-limits-z.true))
 
 pub returns : goal.returns
 returns c =
-    let e = c.before.before.before in
-    let s = e.before.before.before in
-    ap Is (to_z-of_z s.ranges.z) ∙ sym (between s.args.limits s.args.z (not_below e) (simp (to_z-of_z s.ranges.z, high s) at c.if-limits-z.false))
+    let e = c in
+    let s = e in
+    ap Is (to_z-of_z s.ranges.z) ∙ sym (between s.args.limits s.args.z (not_below e.before.before.before) (simp (to_z-of_z s.ranges.z, high s.before.before.before.before.before.before) at c.if-limits-z.false))

@@ -26,7 +26,7 @@ plus-requires c = small c.args.s.now _ (sym c.amount_of-a-in_default.ensures ∙
 pub returns-in-Of : goal.returns-in-Of
 unfolding number
 returns-in-Of c =
-    let m = c.before in
+    let m = c in
     let a = m.args in
     let s = a.s.now in
     let t : eqb (get_or s 0 0) (byte "-") ≡ true = eq-eqb (get_or s 0 0) (byte "-") m.in-45.is in
@@ -45,7 +45,7 @@ returns-in-NoAmount c =
 pub returns-in-Of-a : goal.returns-in-Of-a
 unfolding number
 returns-in-Of-a c =
-    let p = c.before in
+    let p = c in
     let a = p.args in
     let s = a.s.now in
     let e = sym (split amount s (omega arith)) ∙ sym p.amount_of-a-in_default.ensures ∙ p.in-Of-a.is in
