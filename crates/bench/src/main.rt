@@ -2,6 +2,7 @@
 // answer of its last event is printed, after a 2 the reply itself, and `?` for any other line.
 //
 // Standard input is read in blocks, and standard output written in blocks, so the memory is the same for any input.
+#![tactic(auto)]
 ghost use Rattle.std.specs.Prelude.{ℕ, ◌≤◌, ◌<◌, ◌≡◌, List, length, drop, take};
 ghost use Rattle.text.specs.Line.{heard, goes_on, Carried, Turned, Streamed, finished};
 ghost use Rattle.text.specs.Output.{waiting};

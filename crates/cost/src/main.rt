@@ -11,6 +11,7 @@
 //                      printed, and no meter is given anything
 //     P times          as M, to a meter with a platinum sensor, whose inputs read what those of M do
 //     O times          as R, by that sensor
+#![tactic(auto)]
 ghost use Rattle.std.specs.Prelude.{◌<◌, length};
 
 use alarm::Settings;

@@ -169,7 +169,7 @@ pub widens : {z : ℤ} → SFits w32 z → SFits w64 (to_z w32 (of_z w32 z))
 widens f = fits_as (to_z-of_z f) (sfits_widen tt f)
 
 pub widened : {z : ℤ} → SFits w32 z → to_z w64 (of_z w64 (to_z w32 (of_z w32 z))) ≡ z
-widened f = rd (to_z-of_z f) (sfits_widen tt f)
+widened f = rd {w = w64} (to_z-of_z f) (sfits_widen {w = w32} {w' = w64} tt f)
 
 -- what is read back of an element (`.given`) or of a call's result (`.ok`)
 pub back32 : (z : ℤ) → mag z < 2 ^ 31 → to_z w32 (of_z w32 z) ≡ z

@@ -2,6 +2,7 @@
 // Printed is the first alarm after each sample, 1 for on and 0 for off: of this core, and of the core before it, which counted an off
 // delay from the last poll. The example is `looking`'s own, and each printed state has a contract by its definition `lit`, so that its
 // theorem `OffDelay.always` speaks of these rows.
+#![tactic(auto)]
 ghost use Rattle.std.specs.Prelude.{◌≡◌, ◌∷◌, ℤ, pos};
 ghost use Rattle.alarms.specs.Alarms.{alarm_at};
 ghost use Rattle.instrument.specs.Instrument.{read};

@@ -1,5 +1,6 @@
 // A reading as it is filed with the plant historian, in 8 bytes. What is said of it stands in specs/; the writer and the reader stand in
 // `filing`, so that a claim is checked without them.
+#![tactic(auto)]
 
 // A reading as the historian takes it: a value, or one of the three that have none.
 #[derive(Drop)]

@@ -3,6 +3,7 @@
 // the lines and what is printed of them.
 //
 // Standard input is read in blocks, and standard output written in blocks, so the memory is the same for any input.
+#![tactic(auto)]
 ghost use Rattle.std.specs.Prelude.{ℕ, ◌≤◌, ◌≡◌, List, length, take};
 ghost use Rattle.text.specs.Line.{heard, goes_on, Carried, Turned, Streamed, finished};
 ghost use Rattle.text.specs.Output.{waiting};

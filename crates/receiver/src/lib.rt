@@ -3,6 +3,7 @@
 // bytes, as many as it says, are the string so far, and any greater length is the one state "too long". What stands behind the
 // string is left from earlier ones and means nothing.
 // At `*` and `$` the caller judges the string where it stands, and empties the receiver afterwards.
+#![tactic(auto)]
 ghost use Rattle.std.specs.Prelude.{◌≡◌};
 ghost use Rattle.receiver.specs.Receiver.{kind, silent, over, store, emptied};
 
