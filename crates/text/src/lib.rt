@@ -18,7 +18,7 @@ pub const KEPT: usize = 1024;
 
 // What feeding a block did: how many of its bytes it used, the line's count, and whether the line ended there. The LF is used, and
 // is no part of the line.
-#[derive(Drop)]
+#[derive(Clone, Copy)]
 pub struct Step {
     pub used: usize,
     pub len: usize,
@@ -26,21 +26,21 @@ pub struct Step {
 }
 
 // An unsigned number of 64 bits, where the bytes are one.
-#[derive(Drop)]
+#[derive(Clone, Copy)]
 pub enum Natural {
     Is(u64),
     Not,
 }
 
 // A signed number of 32 bits, where the bytes are one.
-#[derive(Drop)]
+#[derive(Clone, Copy)]
 pub enum Number {
     Is(i32),
     Not,
 }
 
 // A yes or no, where the bytes are one.
-#[derive(Drop)]
+#[derive(Clone, Copy)]
 pub enum Flag {
     Is(bool),
     Not,
