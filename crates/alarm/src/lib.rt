@@ -7,7 +7,7 @@ use reading::Reading;
 use run::Run;
 
 // What the configuration says of an alarm, with the delays in tenths of a second.
-#[derive(Drop)]
+#[derive(Clone, Copy)]
 pub struct Settings {
     pub hysteresis: i32,
     pub on_delay: i32,
@@ -17,7 +17,7 @@ pub struct Settings {
 }
 
 // An alarm's state, with the run of samples that meet the condition it waits for.
-#[derive(Drop)]
+#[derive(Clone, Copy)]
 pub struct Alarm {
     pub setpoint: i32,
     pub on: bool,

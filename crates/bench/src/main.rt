@@ -17,14 +17,14 @@ use text::KEPT;
 use text::output::Out;
 
 // What a line did.
-#[derive(Drop)]
+#[derive(Clone, Copy)]
 struct Told {
     meter: Meter,
     said: Said,
 }
 
 // Between two bytes: the meter, the count of the line that is being read, and the output.
-#[derive(Drop)]
+#[derive(Clone, Copy)]
 struct State {
     meter: Meter,
     len: usize,
@@ -32,7 +32,7 @@ struct State {
 }
 
 // One read's work, and whether the input goes on.
-#[derive(Drop)]
+#[derive(Clone, Copy)]
 struct Turn {
     state: State,
     more: bool,

@@ -6,7 +6,7 @@ ghost use Rattle.bench_line.specs.Grammar.{sample_of, key_of, said_of, parsed, j
 use text::{KEPT, Number};
 
 // Bytes has the line's bytes from index 2 on, of which there are 1 to 80.
-#[derive(Drop)]
+#[derive(Clone, Copy)]
 pub enum Parsed {
     Sample(i32),
     Key(i32),

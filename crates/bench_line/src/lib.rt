@@ -10,7 +10,7 @@ use answer::Answer;
 use text::output::Out;
 
 // What a line is told: the answer of its last event, or that it is no line of this program.
-#[derive(Drop)]
+#[derive(Clone, Copy)]
 pub enum Said {
     Answered(Answer),
     Unknown,

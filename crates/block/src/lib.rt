@@ -11,14 +11,14 @@ use reading::Reading;
 use register::{INP, MAX, MIN, Print, SP1, SP2, SP3, SP4, TOT};
 
 // Decimal places: those of the input, which max, min and the setpoints have too, and those of the total.
-#[derive(Drop)]
+#[derive(Clone, Copy)]
 pub struct Places {
     pub input: usize,
     pub total: usize,
 }
 
 // What a block print shows.
-#[derive(Drop)]
+#[derive(Clone, Copy)]
 pub struct Values {
     pub places: Places,
     pub input: Reading,

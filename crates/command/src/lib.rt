@@ -10,7 +10,7 @@ use register::{Limits, Writes};
 
 // What a string asks: T reads a register, P prints a block, R resets a register, V writes a number that the register holds, or a byte to J.
 // A register is given by its place in the table.
-#[derive(Drop)]
+#[derive(Clone, Copy)]
 pub enum Asked {
     Read(usize),
     Print,
@@ -21,7 +21,7 @@ pub enum Asked {
 }
 
 // For which node, and what is asked of it. NoNode: an N with no digit.
-#[derive(Drop)]
+#[derive(Clone, Copy)]
 pub enum Parsed {
     NoNode,
     To(u8, Asked),

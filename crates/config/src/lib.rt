@@ -10,21 +10,21 @@ use register::Print;
 use total::Totalizer;
 
 // Decimal places of the input and of the total.
-#[derive(Drop)]
+#[derive(Clone, Copy)]
 pub struct Places {
     pub input: i32,
     pub total: i32,
 }
 
 // Where the reading of an input comes from: the line between scaling points, or the table of a platinum sensor.
-#[derive(Drop)]
+#[derive(Clone, Copy)]
 pub enum Source {
     Points,
     Platinum,
 }
 
 // How an input is read: by which source, and to which rounding step; and the scaling points, of which the first so many are in use.
-#[derive(Drop)]
+#[derive(Clone, Copy)]
 pub struct Scale {
     pub source: Source,
     pub step: i32,
@@ -34,14 +34,14 @@ pub struct Scale {
 }
 
 // The displays at which the analog code is 0 and 4,095.
-#[derive(Drop)]
+#[derive(Clone, Copy)]
 pub struct Analog {
     pub low: i32,
     pub high: i32,
 }
 
 // What works on a reading: the totalizer, the capture time of max and min in tenths of a second, the four alarms, the analog code.
-#[derive(Drop)]
+#[derive(Clone, Copy)]
 pub struct Working {
     pub totalizer: Totalizer,
     pub capture: i32,
@@ -50,7 +50,7 @@ pub struct Working {
 }
 
 // What talks: the node, the decimal places, whether lines are abbreviated, and what a block prints.
-#[derive(Drop)]
+#[derive(Clone, Copy)]
 pub struct Talking {
     pub node: i32,
     pub places: Places,
@@ -60,7 +60,7 @@ pub struct Talking {
 
 // A configuration, by who reads it: the scale, what works on a reading, what talks, and the setpoints that the alarms start with. Every
 // number is a signed 32-bit one, so that any value can be given and refused.
-#[derive(Drop)]
+#[derive(Clone, Copy)]
 pub struct Config {
     pub scale: Scale,
     pub working: Working,
@@ -69,7 +69,7 @@ pub struct Config {
 }
 
 // What the rules say: all kept, or the number of the first that is broken.
-#[derive(Drop)]
+#[derive(Clone, Copy)]
 pub enum Verdict {
     Accepted,
     Broken(u32),

@@ -22,7 +22,7 @@ use line::Written;
 use reply::{own_node, print, read};
 
 // An answer, and the instrument with it.
-#[derive(Drop)]
+#[derive(Clone, Copy)]
 pub struct Settled {
     pub answer: Answer,
     pub instrument: Instrument,

@@ -8,21 +8,21 @@ use reading::Reading;
 use run::Run;
 
 // Max and min are one thing seen from two sides.
-#[derive(Drop)]
+#[derive(Clone, Copy)]
 pub enum Side {
     Max,
     Min,
 }
 
 // What is kept: none after power-up and after a reset with no number to take.
-#[derive(Drop)]
+#[derive(Clone, Copy)]
 pub enum Kept {
     Empty,
     Holds(i32),
 }
 
 // The run of successive samples beyond what is kept.
-#[derive(Drop)]
+#[derive(Clone, Copy)]
 pub enum Streak {
     // None goes on.
     Idle,
@@ -31,7 +31,7 @@ pub enum Streak {
 }
 
 // A max or a min, and its run.
-#[derive(Drop)]
+#[derive(Clone, Copy)]
 pub struct Extreme {
     pub kept: Kept,
     pub run: Streak,

@@ -3,7 +3,7 @@
 #![tactic(auto)]
 
 // A reading as the historian takes it: a value, or one of the three that have none.
-#[derive(Drop)]
+#[derive(Clone, Copy)]
 pub enum Datum {
     Value(f32),
     Over,
@@ -12,14 +12,14 @@ pub enum Datum {
 }
 
 // What 8 bytes say: the reading, and the decimal places of the input that it came from.
-#[derive(Drop)]
+#[derive(Clone, Copy)]
 pub struct Record {
     pub places: u8,
     pub datum: Datum,
 }
 
 // Why something is refused: it is not of 8 bytes; its kind is none; its filler or its places are not such; or no display has its value.
-#[derive(Drop)]
+#[derive(Clone, Copy)]
 pub enum Refusal {
     Length,
     Kind,
@@ -28,7 +28,7 @@ pub enum Refusal {
 }
 
 // What became of a reading that was to be written: so many bytes of it were, it had no room, or it is refused.
-#[derive(Drop)]
+#[derive(Clone, Copy)]
 pub enum Written {
     Bytes(usize),
     NoRoom,
@@ -36,7 +36,7 @@ pub enum Written {
 }
 
 // What a reading or bytes are taken for: a record, or they are refused.
-#[derive(Drop)]
+#[derive(Clone, Copy)]
 pub enum Taken {
     Record(Record),
     Refused(Refusal),

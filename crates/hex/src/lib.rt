@@ -12,7 +12,7 @@ const HEX: [u8; 16] = *b"0123456789abcdef";
 pub const MOST: usize = 64;
 
 // What a text says: how many bytes, or that it is not hexadecimal.
-#[derive(Drop)]
+#[derive(Clone, Copy)]
 pub enum Hexed {
     Bytes(usize),
     Not,

@@ -14,14 +14,14 @@ use text::KEPT;
 use text::output::Out;
 
 // Between two blocks: the count of the line that is being read, and the output.
-#[derive(Drop)]
+#[derive(Clone, Copy)]
 struct State {
     len: usize,
     out: Out,
 }
 
 // One read's work, and whether the input goes on.
-#[derive(Drop)]
+#[derive(Clone, Copy)]
 struct Turn {
     state: State,
     more: bool,

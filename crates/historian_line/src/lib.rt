@@ -13,7 +13,7 @@ use text::output::{Out, put, put_natural};
 use text::{KEPT, Number};
 
 // A reading, where a word names one.
-#[derive(Drop)]
+#[derive(Clone, Copy)]
 pub enum Named {
     Is(Reading),
     Not,

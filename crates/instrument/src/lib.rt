@@ -7,7 +7,7 @@ use measured::Measured;
 use outputs::Outputs;
 
 // All that is kept from one event to the next, the receiver apart: what was measured, the alarms, and how the outputs are driven.
-#[derive(Drop)]
+#[derive(Clone, Copy)]
 pub struct Instrument {
     pub measured: Measured,
     pub alarms: [Alarm; 4],

@@ -9,14 +9,14 @@ ghost use Rattle.line.specs.Line.{node_text, head, abbreviated_line, line, line_
 use reading::Reading;
 
 // How a meter's lines look: its node, and whether they are abbreviated.
-#[derive(Drop)]
+#[derive(Clone, Copy)]
 pub struct Style {
     pub node: u8,
     pub abbreviated: bool,
 }
 
 // What became of a reply: so many bytes of it were written, or it had no room and none was.
-#[derive(Drop)]
+#[derive(Clone, Copy)]
 pub enum Written {
     Bytes(usize),
     NoRoom,

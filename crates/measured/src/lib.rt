@@ -9,7 +9,7 @@ use extremes::{Extreme, Side};
 use reading::Reading;
 use total::Total;
 
-#[derive(Drop)]
+#[derive(Clone, Copy)]
 pub struct Measured {
     pub reading: Reading,
     pub total: Total,

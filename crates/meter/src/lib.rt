@@ -18,14 +18,14 @@ use receiver::{Kind, Receiver};
 use segments::Segments;
 
 // What a meter holds of its configuration: the scale as segments, what works on a reading, and what talks. The setpoints are the alarms'.
-#[derive(Drop)]
+#[derive(Clone, Copy)]
 pub struct Held {
     pub scale: Segments,
     pub working: Working,
     pub talking: Talking,
 }
 
-#[derive(Drop)]
+#[derive(Clone, Copy)]
 pub struct Meter {
     pub config: Held,
     pub instrument: Instrument,
@@ -33,7 +33,7 @@ pub struct Meter {
 }
 
 // What a call gives back: its answer, and the meter afterwards.
-#[derive(Drop)]
+#[derive(Clone, Copy)]
 pub struct Outcome {
     pub answer: Answer,
     pub meter: Meter,

@@ -6,14 +6,14 @@ ghost use Rattle.numeral.specs.Number.{amount, held_by, number};
 use register::Limits;
 
 // The digits of a V number: its last five, without a sign.
-#[derive(Drop)]
+#[derive(Clone, Copy)]
 pub enum Amount {
     Of(u32),
     NoAmount,
 }
 
 // What a V number comes to: the number itself, or the limit that it was held to.
-#[derive(Drop)]
+#[derive(Clone, Copy)]
 pub enum Number {
     Is(i32),
     Held(i32),

@@ -8,14 +8,14 @@ use config::Working;
 use reading::Reading;
 
 // Automatic, or manual with the four outputs as bits 0 to 3.
-#[derive(Drop)]
+#[derive(Clone, Copy)]
 pub enum Mode {
     Automatic,
     Manual(u8),
 }
 
 // The status has 16 bits: they hold 16 and any byte of manual outputs, and whatever they hold fits a line.
-#[derive(Drop)]
+#[derive(Clone, Copy)]
 pub struct Outputs {
     pub code: i32,
     pub mode: Mode,

@@ -4,7 +4,7 @@ ghost use Rattle.std.specs.Prelude.{◌≡◌, ◌&&◌, ◌≤◌, ◌<◌};
 ghost use Rattle.reading.specs.Reading.{in_input, in_display, judged, displayable, up_to, point_in, rises_at, points_in};
 
 // A reading: nothing before the first sample, a number, or beyond the display range.
-#[derive(Drop)]
+#[derive(Clone, Copy)]
 pub enum Reading {
     Nothing,
     Under,

@@ -10,14 +10,14 @@ ghost use Rattle.receiver.specs.Receiver.{kind, silent, over, store, emptied};
 // The most bytes that a string may have before its end.
 const LIMIT: usize = 32;
 
-#[derive(Drop)]
+#[derive(Clone, Copy)]
 pub struct Receiver {
     pub bytes: [u8; LIMIT],
     pub length: usize,
 }
 
 // What a byte does: it ends a string, it drops one, or it is part of one.
-#[derive(Drop)]
+#[derive(Clone, Copy)]
 pub enum Kind {
     End,
     Drop,

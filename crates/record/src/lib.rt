@@ -30,7 +30,7 @@ pub const WORDS: usize = 74;
 const SENSOR: usize = 73;
 
 // A configuration's words are in the array that `parse` is lent.
-#[derive(Drop)]
+#[derive(Clone, Copy)]
 pub enum Event {
     Configuration,
     Sample(i32),

@@ -6,14 +6,14 @@ ghost use Rattle.register.specs.Registers.{register_of, entry, index};
 ghost use Rattle.register.specs.Shows.{shows_at};
 
 // The numbers that a register holds: from the low one to the high one, both among them.
-#[derive(Drop)]
+#[derive(Clone, Copy)]
 pub struct Limits {
     pub low: i32,
     pub high: i32,
 }
 
 // What V writes to a register: nothing, a number held to limits, or one byte.
-#[derive(Drop)]
+#[derive(Clone, Copy)]
 pub enum Writes {
     Nothing,
     Number(Limits),
@@ -22,7 +22,7 @@ pub enum Writes {
 
 // A register: its letter, its mnemonic, and whether T reads it and R resets it. What V writes is a column of its own, since the table is
 // laid out anew wherever it is asked, and a reply line asks for a mnemonic alone.
-#[derive(Drop)]
+#[derive(Clone, Copy)]
 pub struct Register {
     pub letter: u8,
     pub mnemonic: [u8; 3],
@@ -31,7 +31,7 @@ pub struct Register {
 }
 
 // What a block print shows: the input, max with min, the total, all four setpoints.
-#[derive(Drop)]
+#[derive(Clone, Copy)]
 pub struct Print {
     pub input: bool,
     pub extremes: bool,
@@ -41,7 +41,7 @@ pub struct Print {
 
 // What a line of a register can show: numbers within limits, `OLOL` and `ULUL` where it can lie beyond them, `----` where it can have none;
 // and whether its numbers have decimal places.
-#[derive(Drop)]
+#[derive(Clone, Copy)]
 pub struct Shows {
     pub numbers: Limits,
     pub beyond: bool,

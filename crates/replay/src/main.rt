@@ -20,7 +20,7 @@ use text::KEPT;
 use text::output::Out;
 
 // What is shown of a line: the answer of a configuration, or an event's with the whole state, or that it is no line of a history.
-#[derive(Drop)]
+#[derive(Clone, Copy)]
 enum Said {
     PoweredUp(Answer),
     Answered(Answer),
@@ -28,14 +28,14 @@ enum Said {
 }
 
 // What a line did.
-#[derive(Drop)]
+#[derive(Clone, Copy)]
 struct Told {
     meter: Meter,
     said: Said,
 }
 
 // Between two bytes: the meter, the count of the line that is being read, and the output.
-#[derive(Drop)]
+#[derive(Clone, Copy)]
 struct State {
     meter: Meter,
     len: usize,
@@ -43,7 +43,7 @@ struct State {
 }
 
 // One read's work, and whether the input goes on.
-#[derive(Drop)]
+#[derive(Clone, Copy)]
 struct Turn {
     state: State,
     more: bool,

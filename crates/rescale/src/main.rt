@@ -19,7 +19,7 @@ use text::KEPT;
 use text::output::Out;
 
 // Between two blocks: what the first line has made of the program, the count of the line that is being read, and the output.
-#[derive(Drop)]
+#[derive(Clone, Copy)]
 struct State {
     mode: Mode,
     scale: Segments,
@@ -28,7 +28,7 @@ struct State {
 }
 
 // One read's work, and whether the input goes on.
-#[derive(Drop)]
+#[derive(Clone, Copy)]
 struct Turn {
     state: State,
     more: bool,

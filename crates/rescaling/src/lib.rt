@@ -18,7 +18,7 @@ use text::output::{Out, put, put_natural};
 use text::{KEPT, Number};
 
 // What the first line has made of the program: none has come yet, a scale is held, a configuration was refused, or there was none.
-#[derive(Drop)]
+#[derive(Clone, Copy)]
 pub enum Mode {
     Awaiting,
     Scaled,
@@ -27,7 +27,7 @@ pub enum Mode {
 }
 
 // What a line is told: the answer to a configuration, the reading of an input, that it is no line of this program, or nothing at all.
-#[derive(Drop)]
+#[derive(Clone, Copy)]
 pub enum Said {
     Configured(Answer),
     Read(Reading),
@@ -36,7 +36,7 @@ pub enum Said {
 }
 
 // What the first line did. The scale is one that inputs can be read by where the mode says so, and else has no segment.
-#[derive(Drop)]
+#[derive(Clone, Copy)]
 pub struct Opened {
     pub mode: Mode,
     pub scale: Segments,

@@ -4,7 +4,7 @@ ghost use Rattle.std.specs.Prelude.{◌≡◌};
 ghost use Rattle.run.specs.Run.{samples, counted};
 
 // What a sample makes of a run.
-#[derive(Drop)]
+#[derive(Clone, Copy)]
 pub enum Run {
     // The condition did not hold.
     Broken,

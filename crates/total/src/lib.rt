@@ -6,7 +6,7 @@ ghost use Rattle.total.specs.Total.{Timed, unit_of, quotient, summed, added, cou
 use reading::Reading;
 
 // What the configuration says of the total: the scale factor in thousandths, the time base in seconds.
-#[derive(Drop)]
+#[derive(Clone, Copy)]
 pub struct Totalizer {
     pub batch: bool,
     pub low_cut: i32,
@@ -15,7 +15,7 @@ pub struct Totalizer {
 }
 
 // Where the total stands.
-#[derive(Drop)]
+#[derive(Clone, Copy)]
 pub enum Range {
     Within,
     Under,
@@ -23,7 +23,7 @@ pub enum Range {
 }
 
 // The sum, and whether the total has left its range since the last reset.
-#[derive(Drop)]
+#[derive(Clone, Copy)]
 pub struct Total {
     pub sum: i64,
     pub range: Range,

@@ -33,17 +33,17 @@ pub bounds-table-i : goal.bounds-table-i
 bounds-table-i c = omega arith
 
 -- the invariant, of n itself
-left : (c : At-loop-i) → among c.before.args.n (drop c.loop-i.i c.before.args.table.now) ≡ among c.before.args.n c.before.args.table.now
-left c = rw (to_z-of_z c.before.ranges.n) at c.loop-i.invariant.1
+left : (c : At-loop-i) → among c.args.n (drop c.loop-i.i c.args.table.now) ≡ among c.args.n c.args.table.now
+left c = rw (to_z-of_z c.ranges.n) at c.loop-i.invariant.1
 
 -- the test of the entry at i, which the machine makes on the bits
-test : (c : After-t7-1) → eqb (of_z w32 c.before.before.before.args.n) (of_z w32 (get_or c.before.before.before.args.table.now c.before.before.loop-i.i (pos 0))) ≡ eq_z c.before.before.before.args.n (get_or c.before.before.before.args.table.now c.before.before.loop-i.i (pos 0))
-test c = eq32 _ _ c.before.before.before.ranges.n (record { sfits = c.t7-1.given })
+test : (c : After-t7-1) → eqb (of_z w32 c.args.n) (of_z w32 (get_or c.args.table.now c.loop-i.i (pos 0))) ≡ eq_z c.args.n (get_or c.args.table.now c.loop-i.i (pos 0))
+test c = eq32 _ _ c.ranges.n (record { sfits = c.t7-1.given })
 
 pub returns-then-n-table : goal.returns-then-n-table
 returns-then-n-table c =
     let l = c.before.before.before in
-    sym (among_here l.before.args.n l.before.args.table.now l.loop-i.i (omega arith) (sym (test c.before) ∙ eq-eqb _ _ c.if-n-table.true)) ∙ left l
+    sym (among_here l.args.n l.args.table.now l.loop-i.i (omega arith) (sym (test c.before) ∙ eq-eqb _ _ c.if-n-table.true)) ∙ left l
 
 pub overflow_add-i : goal.overflow_add-i
 overflow_add-i c = omega arith
@@ -55,10 +55,10 @@ pub loop-i-preserved : goal.loop-i-preserved
 loop-i-preserved c =
     let l = c.before.before.before in
     let e = sym (test c.before) ∙ ne_eqb _ _ c.if-n-table.false in
-    (omega arith, rw (to_z-of_z l.before.ranges.n) (sym (among_next l.before.args.n l.before.args.table.now l.loop-i.i (omega arith) e) ∙ left l))
+    (omega arith, rw (to_z-of_z l.ranges.n) (sym (among_next l.args.n l.args.table.now l.loop-i.i (omega arith) e) ∙ left l))
 
 pub returns : goal.returns
 returns c =
     let l = c.before in
-    let e : l.loop-i.i ≡ length l.before.args.table.now = omega arith in
-    sym (among_end l.before.args.n l.before.args.table.now) ∙ rw e at (left l)
+    let e : l.loop-i.i ≡ length l.args.table.now = omega arith in
+    sym (among_end l.args.n l.args.table.now) ∙ rw e at (left l)

@@ -11,19 +11,19 @@ use Rattle.exact.proofs.Z.{fits_as, rd, divisor, neg_is}
 use Rattle.exact.proofs.Quotients.{quotient_cut, cut_fits, quotient_floor, floor_cut, floor_fits, raised_fits}
 use Rattle.exact.proofs.floor.Goals as goal
 
-below : (c : goal.Then-n-lt0) → is_neg c.before.args.n ≡ true
-below c = neg_is c.before.ranges.n c.if-n-lt0.true
+below : (c : goal.Then-n-lt0) → is_neg c.args.n ≡ true
+below c = neg_is c.ranges.n c.if-n-lt0.true
 
 -- the dividend, one up
-up : (c : goal.Then-n-lt0) → SFits w64 (c.before.args.n +ℤ pos 1)
-up c = raised_fits c.before.args.n (below c) c.before.ranges.n
+up : (c : goal.Then-n-lt0) → SFits w64 (c.args.n +ℤ pos 1)
+up c = raised_fits c.args.n (below c) c.ranges.n
 
 -- its quotient
-quotient : (c : goal.Then-n-lt0) → SFits w64 (quot_z (c.before.args.n +ℤ pos 1) c.before.args.d)
-quotient c = fits_as (quotient_cut _ _ c.before.requires) (cut_fits _ _ (up c))
+quotient : (c : goal.Then-n-lt0) → SFits w64 (quot_z (c.args.n +ℤ pos 1) c.args.d)
+quotient c = fits_as (quotient_cut _ _ c.requires) (cut_fits _ _ (up c))
 
 pub overflow_add-result : goal.overflow_add-result
-overflow_add-result c = simp (to_z-of_z c.before.ranges.n) (up c)
+overflow_add-result c = simp (to_z-of_z c.ranges.n) (up c)
 
 pub nonzero_div-result : goal.nonzero_div-result
 nonzero_div-result c =

@@ -7,4 +7,4 @@ use Rattle.exact.specs.Tables.{among, steps}
 use Rattle.exact.proofs.is_step.Goals as goal
 
 pub returns : goal.returns
-returns c = c.among.ensures ∙ ap (λ (z : ℤ). among z steps) (to_z-of_z c.before.before.ranges.n)
+returns c = c.among.ensures ∙ ap (λ (z : ℤ). among z steps) (to_z-of_z c.ranges.n)

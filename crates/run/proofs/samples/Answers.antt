@@ -12,8 +12,7 @@ use mir.Val.{SFits}
 use mir.Facts.{to_z-of_z}
 use Rattle.exact.proofs.Z.{never}
 use Rattle.run.specs.Run.{samples}
-use Rattle.run.proofs.samples.Statement.{statement}
-use Rattle.run.proofs.samples.Tie as tie
+use Rattle.run.proofs.samples.Goals as goal
 
 -- what is known of tenths that are not below 1
 record Natural (z : ℤ) : Type 0 where
@@ -31,24 +30,21 @@ unfolding samples
 shortest (pos n) e = omega (arith, ltb-true)
 shortest (negsuc n) e = refl
 
-tenths : (c : tie.Else1) → Natural c.before.args.tenths
-tenths c = natural _ c.before.ranges.tenths (rw (to_z-of_z c.before.ranges.tenths) at c.if1.false)
+tenths : (c : goal.Else-tenths-lt1) → Natural c.args.tenths
+tenths c = natural _ c.ranges.tenths (rw (to_z-of_z c.ranges.tenths) at c.if-tenths-lt1.false)
 
-cast-result : tie.Need-overflow-cast-result
-cast-result c =
+pub overflow_cast-result : goal.overflow_cast-result
+overflow_cast-result c =
     let t = tenths c in
-    rw (to_z-of_z c.before.ranges.tenths) (t.up, record { fits = omega arith })
+    rw (to_z-of_z c.ranges.tenths) (t.up, record { fits = omega arith })
 
-mul-result : tie.Need-overflow-mul-result
-mul-result c =
+pub overflow_mul-result : goal.overflow_mul-result
+overflow_mul-result c =
     let t = tenths c in
-    rw (to_z-of_z c.before.ranges.tenths) (record { fits = omega arith })
+    rw (to_z-of_z c.ranges.tenths) (record { fits = omega arith })
 
-returns : tie.Need-returns
-returns c = shortest _ (rw (to_z-of_z c.before.ranges.tenths) at c.if1.true)
+pub returns-then-tenths-lt1 : goal.returns-then-tenths-lt1
+returns-then-tenths-lt1 c = shortest _ (rw (to_z-of_z c.ranges.tenths) at c.if-tenths-lt1.true)
 
-returns-2 : tie.Need-returns-2
-returns-2 c = rw (to_z-of_z c.before.ranges.tenths) (tenths c).twice
-
-pub samples_spec : {M : Type 1} → statement M
-samples_spec = tie.close (tie.spec cast-result mul-result returns returns-2)
+pub returns-else-tenths-lt1 : goal.returns-else-tenths-lt1
+returns-else-tenths-lt1 c = rw (to_z-of_z c.ranges.tenths) (tenths c).twice
