@@ -1,11 +1,11 @@
--- `hex::is_text` meets its contract: one byte is a dash, and any other number of them digits. Assumes nothing.
+-- `hexadecimal::is_text` meets its contract: one byte is a dash, and any other number of them digits. Assumes nothing.
 use borrow.Author.Rules.{rules}
 use mathlib.Core.Path.{sym, ◌∙◌}
 use mathlib.Core.Bool.{true, false}
 use Rattle.exact.proofs.Z.{turned_true, turned_false}
-use Rattle.hex.proofs.Digits.{text_one, text_sized}
-use Rattle.hex.proofs.is_text.Statement.{statement}
-use Rattle.hex.proofs.is_text.Tie as tie
+use Rattle.hexadecimal.proofs.Digits.{text_one, text_sized}
+use Rattle.hexadecimal.proofs.is_text.Statement.{statement}
+use Rattle.hexadecimal.proofs.is_text.Tie as tie
 
 shared-slice-read-result : tie.Need-shared-slice-read-result
 shared-slice-read-result c = search rules

@@ -2,8 +2,8 @@
 use Rattle.std.specs.Prelude.{ℕ, ◌+◌, ◌-◌, ◌*◌, ◌/◌, ◌%◌, Bool, true, cond, ◌&&◌, ◌||◌, List, [], ◌∷◌, ◌++◌, map, eqb, length, drop, get_or}
 use Rattle.io.specs.Digits.{hex_digit_ascii}
 use Rattle.register.specs.Bytes.{byte, ascii, within}
-use Rattle.hex.specs.declared.Hexed.{Hexed}
-use Rattle.hex.specs.declared.Hexed.TheVariants.{Bytes, Not}
+use Rattle.hexadecimal.specs.declared.Hexed.{Hexed}
+use Rattle.hexadecimal.specs.declared.Hexed.TheVariants.{Bytes, Not}
 
 -- ---- what is put
 

@@ -1,4 +1,4 @@
--- `hex::put_hex` meets its contract: each turn puts one byte more. Assumes nothing.
+-- `hexadecimal::put_hex` meets its contract: each turn puts one byte more. Assumes nothing.
 use borrow.Author.Rules.{rules}
 use native.Mathlib.Omega.{arith}
 use mathlib.Core.Path.{◌≡◌, refl, sym, ap, ◌∙◌}
@@ -6,11 +6,11 @@ use mathlib.Core.List.{map}
 use Prim.Native.Nat.{◌≤◌, ◌-◌}
 use lib.ListN.{length, drop}
 use Rattle.text.specs.Output.{waiting, puts}
-use Rattle.hex.specs.Hex.{hex_byte}
+use Rattle.hexadecimal.specs.Hex.{hex_byte}
 use Rattle.text.proofs.Pieces.{one, alike}
-use Rattle.hex.proofs.Pieces.{hex_none, hex_some, hex_turn, hex_out}
-use Rattle.hex.proofs.put_hex.Statement.{statement}
-use Rattle.hex.proofs.put_hex.Tie as tie
+use Rattle.hexadecimal.proofs.Pieces.{hex_none, hex_some, hex_turn, hex_out}
+use Rattle.hexadecimal.proofs.put_hex.Statement.{statement}
+use Rattle.hexadecimal.proofs.put_hex.Tie as tie
 
 abbrev invariant-loop : tie.invariant-loop
 invariant-loop buf₀ s p₀ i₀ buf p i = (i ≤ length s) × (length buf ≡ length buf₀)

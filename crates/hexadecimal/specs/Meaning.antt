@@ -1,7 +1,7 @@
 -- What a text says, by what is printed of bytes: each undoes the other, but for the case of letters.
 use Rattle.std.specs.Prelude.{ℕ, ◌+◌, ◌≤◌, ◌<◌, ◌≡◌, true, cond, length, get_or}
 use mathlib.Core.List.{List, map, flatten}
-use Rattle.hex.specs.Hex.{hex, is_lower, is_upper, digit_of, most, is_text, bytes_of}
+use Rattle.hexadecimal.specs.Hex.{hex, is_lower, is_upper, digit_of, most, is_text, bytes_of}
 
 -- each number is a byte
 abbrev pub AreBytes : List ℕ → Type 0

@@ -9,7 +9,7 @@ use lib.Seq.{drop-cons, drop-length}
 use Rattle.io.specs.Digits.{hex_digit_ascii}
 use Rattle.register.specs.Bytes.{ascii}
 use Rattle.text.specs.Output.{Waiting, put_in, puts}
-use Rattle.hex.specs.Hex.{hex_byte, hex}
+use Rattle.hexadecimal.specs.Hex.{hex_byte, hex}
 
 -- ---- byte for byte
 

@@ -1,4 +1,4 @@
--- `hex::fill` meets its contract: after n turns the array has the first n bytes, and 2 × n digits are read. Assumes nothing.
+-- `hexadecimal::fill` meets its contract: after n turns the array has the first n bytes, and 2 × n digits are read. Assumes nothing.
 use borrow.Author.Rules.{rules}
 use native.Mathlib.Omega.{arith}
 use mathlib.Core.Path.{◌≡◌, refl, ◌∙◌}
@@ -6,10 +6,10 @@ use mathlib.Core.Bool.{true}
 use mathlib.Core.List.{List}
 use Prim.Native.Nat.{ℕ, ◌+◌, ◌-◌, ◌*◌, ◌≤◌, ◌<◌}
 use lib.ListN.{length, take, get_or}
-use Rattle.hex.specs.Hex.{most, is_digit, bytes_of, over}
-use Rattle.hex.proofs.Digits.{below_16, digit_at, text_digits, text_few, bytes_count, byte_at, over_none, over_next, over_all}
-use Rattle.hex.proofs.fill.Statement.{statement}
-use Rattle.hex.proofs.fill.Tie as tie
+use Rattle.hexadecimal.specs.Hex.{most, is_digit, bytes_of, over}
+use Rattle.hexadecimal.proofs.Digits.{below_16, digit_at, text_digits, text_few, bytes_count, byte_at, over_none, over_next, over_all}
+use Rattle.hexadecimal.proofs.fill.Statement.{statement}
+use Rattle.hexadecimal.proofs.fill.Tie as tie
 
 abbrev invariant-loop : tie.invariant-loop
 invariant-loop text bytes₀ n₀ i₀ bytes n i = (i ≡ 2 * n) × (i ≤ length text) × (bytes ≡ over bytes₀ (take n (bytes_of text)))

@@ -5,9 +5,9 @@ use Prim.Native.Nat.{ℕ, ◌-◌}
 use Prim.Native.String.{String}
 use lib.ListN.{length, replicate}
 use Rattle.register.specs.Bytes.{byte, ascii}
-use Rattle.hex.specs.Hex.{hex, is_digit, digit_of, is_size, all_digits, is_text, bytes_of, hexed, over, filled}
-use Rattle.hex.specs.declared.Hexed.{Hexed}
-use Rattle.hex.specs.declared.Hexed.TheVariants.{Bytes, Not}
+use Rattle.hexadecimal.specs.Hex.{hex, is_digit, digit_of, is_size, all_digits, is_text, bytes_of, hexed, over, filled}
+use Rattle.hexadecimal.specs.declared.Hexed.{Hexed}
+use Rattle.hexadecimal.specs.declared.Hexed.TheVariants.{Bytes, Not}
 
 pub record Printed : Type 0 where
   pub bytes : List ℕ

@@ -11,10 +11,10 @@ use Rattle.io.specs.Digits.{hex_digit_ascii}
 use Rattle.exact.proofs.Z.{never, both}
 use Rattle.register.specs.Bytes.{byte}
 use Rattle.register.proofs.Ranges.{range, in_range, below_range, above_range}
-use Rattle.hex.specs.Hex.{hex_byte, hex, is_lower, is_upper, is_digit, digit_of, most, is_size, all_digits, is_text, bytes_of, hexed}
-use Rattle.hex.specs.Meaning.{AreBytes, lowered, ReadBack, PrintedBack, Answered, InEitherCase}
-use Rattle.hex.specs.declared.Hexed.TheVariants.{Bytes, Not}
-use Rattle.hex.proofs.Digits.{worth_decimal, worth_lower, worth_upper, by_range, below_16, text_sized, text_digits, text_few, text_even, bytes_count}
+use Rattle.hexadecimal.specs.Hex.{hex_byte, hex, is_lower, is_upper, is_digit, digit_of, most, is_size, all_digits, is_text, bytes_of, hexed}
+use Rattle.hexadecimal.specs.Meaning.{AreBytes, lowered, ReadBack, PrintedBack, Answered, InEitherCase}
+use Rattle.hexadecimal.specs.declared.Hexed.TheVariants.{Bytes, Not}
+use Rattle.hexadecimal.proofs.Digits.{worth_decimal, worth_lower, worth_upper, by_range, below_16, text_sized, text_digits, text_few, text_even, bytes_count}
 
 -- ---- a digit
 

@@ -13,8 +13,8 @@ use lib.Seq.{drop-cons, drop-length, length-take-le, take-length, paste-suc}
 use Rattle.exact.proofs.Z.{both}
 use Rattle.register.specs.Bytes.{byte, within}
 use Rattle.register.proofs.Ranges.{range, in_range, below_range, above_range}
-use Rattle.hex.specs.Hex.{is_decimal, is_lower, is_upper, is_digit, digit_of, most, is_size, all_digits, is_text, bytes_of, over, hexed, filled}
-use Rattle.hex.specs.declared.Hexed.TheVariants.{Bytes, Not}
+use Rattle.hexadecimal.specs.Hex.{is_decimal, is_lower, is_upper, is_digit, digit_of, most, is_size, all_digits, is_text, bytes_of, over, hexed, filled}
+use Rattle.hexadecimal.specs.declared.Hexed.TheVariants.{Bytes, Not}
 
 -- ---- a digit lies in one of the three ranges, and is worth less than 16
 

@@ -1,8 +1,8 @@
--- `hex::digit` meets its contract: `A` to `F` lie behind `9`, and `a` to `f` behind those. Assumes nothing.
+-- `hexadecimal::digit` meets its contract: `A` to `F` lie behind `9`, and `a` to `f` behind those. Assumes nothing.
 use borrow.Author.Rules.{rules}
-use Rattle.hex.proofs.Digits.{worth_decimal, worth_lower, worth_upper, first_digit, behind_9, behind_F, last_digit}
-use Rattle.hex.proofs.digit.Statement.{statement}
-use Rattle.hex.proofs.digit.Tie as tie
+use Rattle.hexadecimal.proofs.Digits.{worth_decimal, worth_lower, worth_upper, first_digit, behind_9, behind_F, last_digit}
+use Rattle.hexadecimal.proofs.digit.Statement.{statement}
+use Rattle.hexadecimal.proofs.digit.Tie as tie
 
 sub-result : tie.Need-overflow-sub-result
 sub-result c = first_digit c.before.args.b c.before.requires

@@ -1,9 +1,9 @@
--- `hex::is_size` meets its contract: the code has the definition's three tests. Assumes nothing.
+-- `hexadecimal::is_size` meets its contract: the code has the definition's three tests. Assumes nothing.
 use borrow.Author.Rules.{rules}
 use mathlib.Core.Path.{refl}
-use Rattle.hex.specs.Hex.{is_size}
-use Rattle.hex.proofs.is_size.Statement.{statement}
-use Rattle.hex.proofs.is_size.Tie as tie
+use Rattle.hexadecimal.specs.Hex.{is_size}
+use Rattle.hexadecimal.proofs.is_size.Statement.{statement}
+use Rattle.hexadecimal.proofs.is_size.Tie as tie
 
 mul-result : tie.Need-overflow-mul-result
 mul-result c = search rules

@@ -1,13 +1,13 @@
--- `hex::put_hex_byte` meets its contract: the table has the sixteen digits. Assumes nothing.
+-- `hexadecimal::put_hex_byte` meets its contract: the table has the sixteen digits. Assumes nothing.
 use mathlib.Core.Path.{ap, ap₂, ◌∙◌}
 use mathlib.Core.List.{[], ◌∷◌}
 use Prim.Native.Nat.{ℕ, ◌/◌, ◌%◌}
 use Rattle.text.specs.Output.{waiting, put_in}
 use Rattle.text.proofs.Pieces.{one}
-use Rattle.hex.proofs.Pieces.{hex_digit}
+use Rattle.hexadecimal.proofs.Pieces.{hex_digit}
 use borrow.Author.Rules.{rules}
-use Rattle.hex.proofs.put_hex_byte.Statement.{statement}
-use Rattle.hex.proofs.put_hex_byte.Tie as tie
+use Rattle.hexadecimal.proofs.put_hex_byte.Statement.{statement}
+use Rattle.hexadecimal.proofs.put_hex_byte.Tie as tie
 
 cast-high : tie.Need-overflow-cast-high
 cast-high c = search rules

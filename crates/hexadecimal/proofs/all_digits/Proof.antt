@@ -1,4 +1,4 @@
--- `hex::all_digits` meets its contract: what is left to judge is as the whole. Assumes nothing.
+-- `hexadecimal::all_digits` meets its contract: what is left to judge is as the whole. Assumes nothing.
 use borrow.Author.Rules.{rules}
 use native.Mathlib.Omega.{arith}
 use mathlib.Core.Path.{◌≡◌, refl, sym, ◌∙◌}
@@ -6,10 +6,10 @@ use mathlib.Core.Bool.{true, false}
 use Prim.Native.Nat.{◌≤◌, ◌-◌}
 use lib.ListN.{length, drop, get_or}
 use Rattle.exact.proofs.Z.{turned_true, turned_false}
-use Rattle.hex.specs.Hex.{is_digit, all_digits}
-use Rattle.hex.proofs.Digits.{digits_at, digits_out}
-use Rattle.hex.proofs.all_digits.Statement.{statement}
-use Rattle.hex.proofs.all_digits.Tie as tie
+use Rattle.hexadecimal.specs.Hex.{is_digit, all_digits}
+use Rattle.hexadecimal.proofs.Digits.{digits_at, digits_out}
+use Rattle.hexadecimal.proofs.all_digits.Statement.{statement}
+use Rattle.hexadecimal.proofs.all_digits.Tie as tie
 
 abbrev invariant-loop : tie.invariant-loop
 invariant-loop text i₀ i = (i ≤ length text) × (all_digits text ≡ all_digits (drop i text))

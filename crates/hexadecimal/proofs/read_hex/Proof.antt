@@ -1,10 +1,10 @@
--- `hex::read_hex` meets its contract: nothing is filled in before the whole text is judged. Assumes nothing.
+-- `hexadecimal::read_hex` meets its contract: nothing is filled in before the whole text is judged. Assumes nothing.
 use borrow.Author.Rules.{rules}
 use mathlib.Core.Path.{sym, ◌∙◌}
 use Rattle.exact.proofs.Z.{turned_true, turned_false}
-use Rattle.hex.proofs.Digits.{read_not, read_is}
-use Rattle.hex.proofs.read_hex.Statement.{statement}
-use Rattle.hex.proofs.read_hex.Tie as tie
+use Rattle.hexadecimal.proofs.Digits.{read_not, read_is}
+use Rattle.hexadecimal.proofs.read_hex.Statement.{statement}
+use Rattle.hexadecimal.proofs.read_hex.Tie as tie
 
 is-text-requires : tie.Need-is-text-requires
 is-text-requires c κs = search rules
