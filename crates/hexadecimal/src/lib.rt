@@ -1,5 +1,6 @@
 // Bytes in hexadecimal, for programs that print them or are told them.
 #![tactic(auto)]
+
 ghost use Rattle.std.specs.Prelude.{◌≡◌, true, [], ◌∷◌, length};
 ghost use Rattle.text.specs.Output.{waiting, puts};
 ghost use Rattle.hexadecimal.specs.Hex.{hex_byte, hex, most, is_digit, digit_of, is_size, all_digits, is_text, bytes_of, over, hexed, filled};

@@ -8,18 +8,15 @@ use Rattle.register.specs.Bytes.{ascii}
 use Rattle.text.specs.Numeral.{numeral}
 use Rattle.text.proofs.Pieces.{one, next, alike}
 use Rattle.signed.proofs.Signs.{signed_neg, signed_pos}
-use borrow.Author.Rules.{rules}
 use Rattle.signed.proofs.put_number.Goals as goal
 
 pub returns-then-z-lt0 : goal.returns-then-z-lt0
 returns-then-z-lt0 c =
-    let s = c.before.before.before.before.before.before.before.before.before.before.before.before in
-    alike _ _ _ _ (signed_neg s.args.z (neg_is s.ranges.z c.if-z-lt0.true))
-    (next _ _ _ (ascii "-" ∷ []) (numeral (nat_abs s.args.z) ∷ []) (one _ _ _ c.put-p.ensures)
-    (rw (c.type_size.ensures ∙ ap nat_abs (to_z-of_z s.ranges.z)) at c.put_natural.ensures))
+    alike _ _ _ _ (signed_neg c.args.z (neg_is c.ranges.z c.if-z-lt0.true))
+    (next _ _ _ (ascii "-" ∷ []) (numeral (nat_abs c.args.z) ∷ []) (one _ _ _ c.put-p.ensures)
+    (rw (c.size_of.ensures ∙ ap nat_abs (to_z-of_z c.ranges.z)) at c.put_natural.ensures))
 
 pub returns : goal.returns
 returns c =
-    let s = c.before.before.before.before.before.before.before in
-    alike _ _ _ _ (signed_pos s.args.z (neg_is s.ranges.z c.if-z-lt0.false))
-    (rw (c.size_of-2.ensures ∙ ap nat_abs (to_z-of_z s.ranges.z)) at c.put_natural-2.ensures)
+    alike _ _ _ _ (signed_pos c.args.z (neg_is c.ranges.z c.if-z-lt0.false))
+    (rw (c.size_of-2.ensures ∙ ap nat_abs (to_z-of_z c.ranges.z)) at c.put_natural-2.ensures)
