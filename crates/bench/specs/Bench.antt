@@ -1,5 +1,6 @@
 -- What a line does to the meter and its reply buffer, and what is printed of it.
 use Rattle.std.specs.Prelude.{ℕ, true, List, [], ◌∷◌, ℤ, drop, get_or, replicate}
+use Rattle.core.specs.declared.rt.Stdout.{Stdout}
 use Rattle.text.specs.Line.{Heard, bytes, long, all_lines, ran}
 use Rattle.text.specs.Output.{Waiting, waiting, puts}
 use Rattle.config.specs.Bench.{bench_meter}
@@ -83,9 +84,9 @@ unfoldable pub heard_by : Stand → Heard → Stand
 heard_by s h = stand_after s.out (effect s.meter s.reply h)
 
 -- where it starts: document 01's bench meter, no byte of a line, and nothing that waits
-abbrev pub begun : State
-begun = record { meter = (powered_up bench_meter).meter; len = 0; out = record { at = 0; ok = true } }
+abbrev pub begun : Stdout → State
+begun to = record { meter = (powered_up bench_meter).meter; len = 0; out = record { at = 0; ok = true; to = to } }
 
 -- what waits after a whole stream, where the longest reply has room
 abbrev pub printed_of : List ℕ → List ℕ → Waiting
-printed_of room stream = (ran heard_by (standing begun (replicate 163 0) room) (all_lines stream)).out
+printed_of room stream = (ran heard_by (stand (powered_up bench_meter).meter (replicate 163 0) (waiting 0 room)) (all_lines stream)).out

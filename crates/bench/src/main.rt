@@ -11,8 +11,8 @@ ghost use Rattle.bench.specs.Bench.{key_step, byte_step, bytes_step, as_told, ef
 
 use bench_line::Said;
 use bench_line::grammar::Parsed;
-use libc::{STDERR_FILENO, STDIN_FILENO};
 use meter::{Meter, Outcome};
+use std::io::{Print, Read, Stdin, Stdout};
 use text::KEPT;
 use text::output::Out;
 
@@ -168,6 +168,7 @@ fn came(
 
 // Reads once, and does what came. A read that fails gives nothing.
 fn one_turn(
+    mut input: Stdin,
     block: &mut [u8],
     line: &mut [u8; KEPT],
     reply: &mut [u8],
@@ -176,8 +177,7 @@ fn one_turn(
 ) -> Turn
     ensures { Turned heard_by block.new line.old s.len (standing s reply.old buf.old) (standing result.state reply.new buf.new) line.new result.state.len }
 {
-    let got = libc::read(STDIN_FILENO, &mut *block);
-    let n = io::count(got, &*block);
+    let n = input.read(&mut *block).unwrap_or(0);
     came(&*block, n, &mut *line, &mut *reply, &mut *buf, s)
 }
 
@@ -193,7 +193,14 @@ fn end(line: &[u8; KEPT], reply: &mut [u8], buf: &mut [u8], s: State) -> State
 
 // A proved loop has to end, and nothing says that the input does. So the loop counts its turns down from 2^64 - 1, a number that no
 // run uses up: at a turn each nanosecond it would take more than five hundred years.
-fn run(block: &mut [u8], line: &mut [u8; KEPT], reply: &mut [u8], buf: &mut [u8], s: State) -> State
+fn run(
+    input: Stdin,
+    block: &mut [u8],
+    line: &mut [u8; KEPT],
+    reply: &mut [u8],
+    buf: &mut [u8],
+    s: State,
+) -> State
     ensures { Streamed heard_by line.old s.len (standing s reply.old buf.old) (standing result reply.new buf.new) line.new result.len }
 {
     let mut t = Turn {
@@ -202,42 +209,46 @@ fn run(block: &mut [u8], line: &mut [u8; KEPT], reply: &mut [u8], buf: &mut [u8]
     };
     let mut turns = u64::MAX;
     while turns > 0 && t.more {
-        t = one_turn(&mut *block, &mut *line, &mut *reply, &mut *buf, t.state);
+        t = one_turn(input, &mut *block, &mut *line, &mut *reply, &mut *buf, t.state);
         turns -= 1;
     }
     t.state
 }
 
 // The bench meter, no byte of a line, and nothing that waits.
-fn begun() -> State
-    ensures { result ≡ begun }
+fn begun(to: Stdout) -> State
+    ensures { result ≡ begun to }
 {
     let o = Meter::power_up(config::bench());
     let meter = o.meter;
     State {
         meter,
         len: 0,
-        out: Out { at: 0, ok: true },
+        out: Out {
+            at: 0,
+            ok: true,
+            to,
+        },
     }
 }
 
 // The whole of standard input, whatever it is: what waits is what is printed of all its lines.
-fn played(block: &mut [u8], buf: &mut [u8]) -> Out
+fn played(input: Stdin, to: Stdout, block: &mut [u8], buf: &mut [u8]) -> Out
     ensures { (stream : List ℕ) × (waiting result.at buf.new ≡ printed_of buf.old stream) }
 {
     let mut line = [0u8; KEPT];
     let mut reply = [0u8; 163];
-    let s = run(&mut *block, &mut line, &mut reply, &mut *buf, begun());
+    let s = run(input, &mut *block, &mut line, &mut reply, &mut *buf, begun(to));
     let e = end(&line, &mut reply, &mut *buf, s);
     e.out
 }
 
-fn main() {
+fn main(rt: HostRuntime) {
     let mut block = io::large_buffer();
     let mut buf = io::large_buffer();
-    let o = played(&mut block, &mut buf);
+    let o = played(rt.stdin(), rt.stdout(), &mut block, &mut buf);
     let out = text::output::flush(&buf, o);
     if !out.ok {
-        io::write_all(STDERR_FILENO, b"a write failed\n");
+        let _ = rt.stderr().write_all(b"a write failed\n");
     }
 }

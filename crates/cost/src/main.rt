@@ -12,14 +12,13 @@
 //     P times          as M, to a meter with a platinum sensor, whose inputs read what those of M do
 //     O times          as R, by that sensor
 #![tactic(auto)]
-ghost use Rattle.std.specs.Prelude.{◌<◌, length};
+ghost use Rattle.std.specs.Prelude.{◌<◌, ◌≤◌, length, IfOk};
 
 use alarm::Settings;
 use answer::Answer;
 use config::{Analog, Config, Scale, Source};
-use libc::{STDIN_FILENO, STDOUT_FILENO};
 use meter::{Meter, Outcome};
-use register::Print;
+use std::io::{self, Print, Read, Stdin, Stdout};
 use text::{KEPT, Natural, Number, Step};
 
 // ---- the meter
@@ -62,7 +61,7 @@ fn cost_config() -> Config {
     let analog = Analog { low: 0, high: 6000 };
     working.analog = analog;
     let mut talking = c.talking;
-    let print = Print {
+    let print = register::Print {
         input: true,
         extremes: true,
         total: true,
@@ -214,157 +213,186 @@ fn not_started() -> Meter {
 // ---- what is printed
 
 // The first n bytes of the buffer, of which there are as many.
-fn put_reply(buffer: &[u8], n: usize) {
+fn put_reply(to: Stdout, buffer: &[u8], n: usize) -> io::Result<()> {
     if n <= buffer.len() {
-        io::write_all(STDOUT_FILENO, &buffer[0..n]);
+        to.write_all(&buffer[0..n])?;
     }
+    Ok(())
 }
 
 // An answer's number and what it carries, and after a 2 the reply itself.
-fn put_answer(a: Answer, buffer: &[u8]) {
-    io::print_decimal(STDOUT_FILENO, answer::number(a));
-    io::write_all(STDOUT_FILENO, b" ");
-    io::print_decimal(STDOUT_FILENO, answer::value(a));
-    io::write_all(STDOUT_FILENO, b"\n");
+fn put_answer(to: Stdout, a: Answer, buffer: &[u8]) -> io::Result<()> {
+    to.print(answer::number(a))?;
+    to.write_all(b" ")?;
+    to.print(answer::value(a))?;
+    to.write_all(b"\n")?;
     if let Answer::Replied(n) = a {
-        put_reply(buffer, n);
+        put_reply(to, buffer, n)?;
     }
+    Ok(())
 }
 
 // What the last event was answered, and the block that the meter then prints.
-fn put_outcome(o: Outcome, buffer: &mut [u8]) {
+fn put_outcome(to: Stdout, o: Outcome, buffer: &mut [u8]) -> io::Result<()> {
     let answer = o.answer;
-    put_answer(answer, &*buffer);
+    put_answer(to, answer, &*buffer)?;
     let p = o.meter.key(6, &mut *buffer, 0);
     let printed = p.answer;
-    put_answer(printed, &*buffer);
+    put_answer(to, printed, &*buffer)
 }
 
 // A reading of these inputs, of which none lies below zero.
-fn put_reading(n: i32) {
+fn put_reading(to: Stdout, n: i32) -> io::Result<()> {
     if n < 0 {
-        io::write_all(STDOUT_FILENO, b" -");
+        to.write_all(b" -")
     } else {
-        io::write_all(STDOUT_FILENO, b" ");
-        io::print_decimal(STDOUT_FILENO, n as u64);
+        to.write_all(b" ")?;
+        to.print(n as u64)
     }
 }
 
 // What reading in bulk was answered, and a round of the readings.
-fn put_readings(a: Answer, readings: &[i32; ROUNDS]) {
-    io::print_decimal(STDOUT_FILENO, answer::number(a));
+fn put_readings(to: Stdout, a: Answer, readings: &[i32; ROUNDS]) -> io::Result<()> {
+    to.print(answer::number(a))?;
     let mut i = 0;
     while i < 16 {
-        put_reading(readings[i]);
+        put_reading(to, readings[i])?;
         i += 1;
     }
-    io::write_all(STDOUT_FILENO, b"\n");
+    to.write_all(b"\n")
 }
 
-fn put_unknown() {
-    io::write_all(STDOUT_FILENO, b"?\n");
+fn put_unknown(to: Stdout) -> io::Result<()> {
+    to.write_all(b"?\n")
 }
 
 // ---- the lines
 
 // S, N and K, which have a number.
-fn numbered(letter: u8, times: u64, number: i32, buffer: &mut [u8]) {
+fn numbered(
+    to: Stdout,
+    letter: u8,
+    times: u64,
+    number: i32,
+    buffer: &mut [u8],
+) -> io::Result<()> {
     match letter {
-        b'S' => put_outcome(samples(started(), number, times), buffer),
-        b'N' => put_outcome(samples(not_started(), number, times), buffer),
+        b'S' => put_outcome(to, samples(started(), number, times), buffer),
+        b'N' => put_outcome(to, samples(not_started(), number, times), buffer),
         b'K' => {
             let o = keys(started(), number, &mut *buffer, times);
-            put_outcome(o, &mut *buffer);
+            put_outcome(to, o, &mut *buffer)
         }
-        _ => put_unknown(),
+        _ => put_unknown(to),
     }
 }
 
-fn with_number(letter: u8, times: u64, number: Number, buffer: &mut [u8]) {
+fn with_number(
+    to: Stdout,
+    letter: u8,
+    times: u64,
+    number: Number,
+    buffer: &mut [u8],
+) -> io::Result<()> {
     match number {
-        Number::Is(v) => numbered(letter, times, v, buffer),
-        Number::Not => put_unknown(),
+        Number::Is(v) => numbered(to, letter, times, v, buffer),
+        Number::Not => put_unknown(to),
     }
 }
 
 // B, which has at least one byte.
-fn with_bytes(times: u64, list: &[u8], buffer: &mut [u8]) {
+fn with_bytes(to: Stdout, times: u64, list: &[u8], buffer: &mut [u8]) -> io::Result<()> {
     if list.len() < 1 {
-        put_unknown();
-        return;
+        return put_unknown(to);
     }
     let o = bytes(started(), list, &mut *buffer, times);
-    put_outcome(o, &mut *buffer);
+    put_outcome(to, o, &mut *buffer)
 }
 
 // R and O, whose readings are in no meter.
-fn in_bulk(m: Meter, round: &[i32; 16], times: u64) {
+fn in_bulk(to: Stdout, m: Meter, round: &[i32; 16], times: u64) -> io::Result<()> {
     let inputs = by_turns(round);
     let mut readings = [0; ROUNDS];
     let a = bulk_readings(m, &inputs, &mut readings, times);
-    put_readings(a, &readings);
+    put_readings(to, a, &readings)
 }
 
 // The events of a letter, with what stands behind their number.
-fn events(letter: u8, times: u64, rest: &[u8]) {
+fn events(to: Stdout, letter: u8, times: u64, rest: &[u8]) -> io::Result<()> {
     let mut buffer = [0u8; 163];
     match letter {
-        b'M' => put_outcome(mixed_samples(started(), &INPUTS, times), &mut buffer),
-        b'B' => with_bytes(times, rest, &mut buffer),
-        b'R' => in_bulk(started(), &INPUTS, times),
-        b'P' => put_outcome(mixed_samples(sensor_started(), &OHMS, times), &mut buffer),
-        b'O' => in_bulk(sensor_started(), &OHMS, times),
-        _ => with_number(letter, times, text::read_number(rest), &mut buffer),
+        b'M' => put_outcome(to, mixed_samples(started(), &INPUTS, times), &mut buffer),
+        b'B' => with_bytes(to, times, rest, &mut buffer),
+        b'R' => in_bulk(to, started(), &INPUTS, times),
+        b'P' => put_outcome(to, mixed_samples(sensor_started(), &OHMS, times), &mut buffer),
+        b'O' => in_bulk(to, sensor_started(), &OHMS, times),
+        _ => with_number(to, letter, times, text::read_number(rest), &mut buffer),
     }
 }
 
-fn counted(letter: u8, times: Natural, rest: &[u8]) {
+fn counted(to: Stdout, letter: u8, times: Natural, rest: &[u8]) -> io::Result<()> {
     match times {
-        Natural::Is(n) => events(letter, n, rest),
-        Natural::Not => put_unknown(),
+        Natural::Is(n) => events(to, letter, n, rest),
+        Natural::Not => put_unknown(to),
     }
 }
 
 // A line, as its bytes without the LF.
-fn carried_out(s: &[u8]) {
+fn carried_out(to: Stdout, s: &[u8]) -> io::Result<()> {
     if s.len() < 3 {
-        put_unknown();
-        return;
+        return put_unknown(to);
     }
     let end = text::word_end(s, 2);
     let times = text::read_natural(19, &s[2..end]);
     if end < s.len() {
         let next = end + 1;
-        counted(s[0], times, &s[next..]);
+        counted(to, s[0], times, &s[next..])
     } else {
-        counted(s[0], times, &s[end..]);
+        counted(to, s[0], times, &s[end..])
     }
 }
 
 // The line of an array and a count, where it has ended there.
-fn stepped(line: &[u8; KEPT], f: Step) {
+fn stepped(to: Stdout, line: &[u8; KEPT], f: Step) -> io::Result<()> {
     let len = f.len;
     if f.ended {
         if len <= KEPT {
             let s: &[u8] = line;
-            carried_out(&s[..len]);
+            carried_out(to, &s[..len])?;
         }
     }
+    Ok(())
 }
 
 // The lines of a block.
-fn lines(block: &[u8], line: &mut [u8; KEPT]) {
+fn lines(to: Stdout, block: &[u8], line: &mut [u8; KEPT]) -> io::Result<()> {
     let mut at = 0;
     while at < block.len() {
         let f = text::feed(&mut *line, 0, &block[at..]);
         at += f.used;
-        stepped(&*line, f);
+        stepped(to, &*line, f)?;
     }
+    Ok(())
 }
 
-fn main() {
-    let mut block = io::buffer();
+// Reads on until the block is full or the input ends. Answers how many bytes came.
+fn filled(mut input: Stdin, block: &mut [u8]) -> io::Result<usize>
+    ensures { IfOk result (λ n. n ≤ length block.new) }
+{
+    let mut n = 0;
+    while n < block.len() {
+        let came = input.read(&mut block[n..])?;
+        if came == 0 {
+            break;
+        }
+        n += came;
+    }
+    Ok(n)
+}
+
+fn main(rt: HostRuntime) -> io::Result<()> {
+    let mut block = [0u8; 4096];
     let mut line = [0u8; KEPT];
-    let n = io::read_full(STDIN_FILENO, &mut block);
-    lines(&block[0..n], &mut line);
+    let n = filled(rt.stdin(), &mut block)?;
+    lines(rt.stdout(), &block[0..n], &mut line)
 }

@@ -14,9 +14,9 @@ ghost use Rattle.excursion.specs.Row.{digit, row_of};
 
 use alarm::{Alarm, Settings};
 use config::Config;
-use libc::STDOUT_FILENO;
 use meter::Meter;
 use reading::Reading;
+use std::io::{self, Print, Stdout};
 
 // ---- the meter
 
@@ -217,21 +217,19 @@ fn old_row(times: usize) -> [u8; 7]
     ]
 }
 
-fn put_line(times: usize) {
-    io::write_all(STDOUT_FILENO, &row(times));
-    io::write_all(STDOUT_FILENO, b"    ");
-    io::write_all(STDOUT_FILENO, &old_row(times));
-    io::write_all(STDOUT_FILENO, b"    ");
-    io::print_decimal(STDOUT_FILENO, times as u64);
-    io::write_all(STDOUT_FILENO, b"\n");
+fn put_line(to: Stdout, times: usize) -> io::Result<()> {
+    to.write_all(&row(times))?;
+    to.write_all(b"    ")?;
+    to.write_all(&old_row(times))?;
+    to.write_all(b"    ")?;
+    to.print(times as u64)?;
+    to.write_all(b"\n")
 }
 
-fn main() {
-    io::write_all(
-        STDOUT_FILENO,
-        b"this core  old core   polls behind each sample\n",
-    );
-    put_line(0);
-    put_line(10);
-    put_line(1000);
+fn main(rt: HostRuntime) -> io::Result<()> {
+    let to = rt.stdout();
+    to.write_all(b"this core  old core   polls behind each sample\n")?;
+    put_line(to, 0)?;
+    put_line(to, 10)?;
+    put_line(to, 1000)
 }

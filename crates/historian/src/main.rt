@@ -9,7 +9,7 @@ ghost use Rattle.text.specs.Line.{heard, goes_on, Carried, Turned, Streamed, fin
 ghost use Rattle.text.specs.Output.{waiting};
 ghost use Rattle.historian.specs.Historian.{standing, heard_by, printed_of};
 
-use libc::{STDERR_FILENO, STDIN_FILENO};
+use std::io::{Print, Read, Stdin, Stdout};
 use text::KEPT;
 use text::output::Out;
 
@@ -75,11 +75,16 @@ fn came(block: &[u8], n: usize, line: &mut [u8; KEPT], buf: &mut [u8], s: State)
 }
 
 // Reads once, and does what came. A read that fails gives nothing.
-fn one_turn(block: &mut [u8], line: &mut [u8; KEPT], buf: &mut [u8], s: State) -> Turn
+fn one_turn(
+    mut input: Stdin,
+    block: &mut [u8],
+    line: &mut [u8; KEPT],
+    buf: &mut [u8],
+    s: State,
+) -> Turn
     ensures { Turned heard_by block.new line.old s.len (standing s buf.old) (standing result.state buf.new) line.new result.state.len }
 {
-    let got = libc::read(STDIN_FILENO, &mut *block);
-    let n = io::count(got, &*block);
+    let n = input.read(&mut *block).unwrap_or(0);
     came(&*block, n, &mut *line, &mut *buf, s)
 }
 
@@ -95,7 +100,13 @@ fn end(line: &[u8; KEPT], buf: &mut [u8], s: State) -> State
 
 // A proved loop has to end, and nothing says that the input does. So the loop counts its turns down from 2^64 - 1, a number that no
 // run uses up: at a turn each nanosecond it would take more than five hundred years.
-fn run(block: &mut [u8], line: &mut [u8; KEPT], buf: &mut [u8], s: State) -> State
+fn run(
+    input: Stdin,
+    block: &mut [u8],
+    line: &mut [u8; KEPT],
+    buf: &mut [u8],
+    s: State,
+) -> State
     ensures { Streamed heard_by line.old s.len (standing s buf.old) (standing result buf.new) line.new result.len }
 {
     let mut t = Turn {
@@ -104,32 +115,36 @@ fn run(block: &mut [u8], line: &mut [u8; KEPT], buf: &mut [u8], s: State) -> Sta
     };
     let mut turns = u64::MAX;
     while turns > 0 && t.more {
-        t = one_turn(&mut *block, &mut *line, &mut *buf, t.state);
+        t = one_turn(input, &mut *block, &mut *line, &mut *buf, t.state);
         turns -= 1;
     }
     t.state
 }
 
 // The whole of standard input, whatever it is: what waits is what is printed of all its lines.
-fn told(block: &mut [u8], buf: &mut [u8]) -> Out
+fn told(input: Stdin, to: Stdout, block: &mut [u8], buf: &mut [u8]) -> Out
     ensures { (stream : List ℕ) × (waiting result.at buf.new ≡ printed_of buf.old stream) }
 {
     let mut line = [0u8; KEPT];
     let begun = State {
         len: 0,
-        out: Out { at: 0, ok: true },
+        out: Out {
+            at: 0,
+            ok: true,
+            to,
+        },
     };
-    let s = run(&mut *block, &mut line, &mut *buf, begun);
+    let s = run(input, &mut *block, &mut line, &mut *buf, begun);
     let e = end(&line, &mut *buf, s);
     e.out
 }
 
-fn main() {
+fn main(rt: HostRuntime) {
     let mut block = io::large_buffer();
     let mut buf = io::large_buffer();
-    let o = told(&mut block, &mut buf);
+    let o = told(rt.stdin(), rt.stdout(), &mut block, &mut buf);
     let out = text::output::flush(&buf, o);
     if !out.ok {
-        io::write_all(STDERR_FILENO, b"a write failed\n");
+        let _ = rt.stderr().write_all(b"a write failed\n");
     }
 }

@@ -14,7 +14,7 @@ use Rattle.text.specs.Line.{before, after, has}
 use Rattle.text.specs.Number.{natural_of, number_of, digits, signed_of}
 use Rattle.text.specs.Number as numbers
 use Rattle.text.specs.Numeral.{fewest, numeral}
-use Rattle.hex.specs.Hex.{hex, is_digit, digit_of, is_size, all_digits, is_text, bytes_of}
+use Rattle.hexadecimal.specs.Hex.{hex, is_digit, digit_of, is_size, all_digits, is_text, bytes_of}
 use Rattle.historian_line.specs.Line.{reading_named, record_line, write_line, fields_line, taken_line, read_line, line_shown}
 
 pub record Case : Type 0 where

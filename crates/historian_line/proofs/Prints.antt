@@ -20,9 +20,9 @@ use Rattle.text.specs.Line.{before, after, has}
 use Rattle.text.specs.Number.{natural_of, number_of, digits, value, signed_of}
 use Rattle.text.specs.declared.Number.{Number}
 use Rattle.text.specs.declared.Number.TheVariants as number
-use Rattle.hex.specs.Hex.{hex, hex_byte, most}
-use Rattle.hex.specs.Meaning.{AreBytes}
-use Rattle.hex.proofs.Meaning.{read_back}
+use Rattle.hexadecimal.specs.Hex.{hex, hex_byte, most}
+use Rattle.hexadecimal.specs.Meaning.{AreBytes}
+use Rattle.hexadecimal.proofs.Meaning.{read_back}
 use Rattle.historian_line.specs.Line.{ended, is_mark, reading_named, record_line, asked_line, write_line, fields_line, taken_line, read_line, line_shown}
 use Rattle.historian_line.specs.Meaning.{behind, Prints}
 use Rattle.historian_line.specs.declared.Named.TheVariants as named

@@ -15,7 +15,7 @@ use Rattle.filed.specs.declared.Refusal.TheVariants as refusal
 use Rattle.filed.specs.declared.Taken.TheVariants as taken
 use Rattle.filed.specs.declared.Written.{Written}
 use Rattle.filed.specs.declared.Written.TheVariants as written
-use Rattle.hex.specs.Hex.{hex}
+use Rattle.hexadecimal.specs.Hex.{hex}
 use Rattle.historian_line.specs.Line.{ended, unknown, record_line}
 
 -- eight zeros, into which a record is written

@@ -20,9 +20,9 @@ use Rattle.filed.specs.declared.Taken.{Taken}
 use Rattle.filed.specs.declared.Taken.TheVariants as taken
 use Rattle.dividing.proofs.Values.{given_number}
 use Rattle.filing.proofs.Datums.{or_right}
-use Rattle.hex.specs.Hex.{is_text, bytes_of, hexed, over, filled}
-use Rattle.hex.specs.declared.Hexed.TheVariants.{Bytes, Not}
-use Rattle.hex.proofs.Meaning.{hexed_only}
+use Rattle.hexadecimal.specs.Hex.{is_text, bytes_of, hexed, over, filled}
+use Rattle.hexadecimal.specs.declared.Hexed.TheVariants.{Bytes, Not}
+use Rattle.hexadecimal.proofs.Meaning.{hexed_only}
 use Rattle.historian_line.specs.Line.{unknown, taken_line, read_line}
 
 -- ---- the bytes that a text says

@@ -12,7 +12,7 @@ use Rattle.text.specs.Line.{Heard, bytes, long, before, after, has, kept}
 use Rattle.text.specs.Number.{number_of}
 use Rattle.text.specs.Numeral.{numeral}
 use Rattle.text.specs.declared.Number.TheVariants as number
-use Rattle.hex.specs.Hex.{hex, is_text, bytes_of}
+use Rattle.hexadecimal.specs.Hex.{hex, is_text, bytes_of}
 use Rattle.historian_line.specs.declared.Named.{Named}
 use Rattle.historian_line.specs.declared.Named.TheVariants as named
 

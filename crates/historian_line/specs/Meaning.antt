@@ -9,8 +9,8 @@ use Rattle.filed.specs.Filed.{datum_of, kind_of, bits_of, in_places, filed, take
 use Rattle.text.specs.Line.{has}
 use Rattle.text.specs.Number.{number_of}
 use Rattle.text.specs.declared.Number.TheVariants as number
-use Rattle.hex.specs.Hex.{hex, most}
-use Rattle.hex.specs.Meaning.{AreBytes}
+use Rattle.hexadecimal.specs.Hex.{hex, most}
+use Rattle.hexadecimal.specs.Meaning.{AreBytes}
 use Rattle.historian_line.specs.Line.{ended, reading_named, record_line, asked_line, fields_line, taken_line, line_shown}
 use Rattle.historian_line.specs.declared.Named.TheVariants as named
 

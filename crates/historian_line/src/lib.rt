@@ -7,7 +7,7 @@ ghost use Rattle.filed.specs.Filed.{has_bits, has_bits_in, kind_of, bits_of};
 ghost use Rattle.historian_line.specs.Line.{unknown, is_mark, number_named, reading_named, record_line, asked_line, write_line, kind_pieces, bits_pieces, fields_line, taken_line, read_line, by_letter, line_shown, heard_shown};
 
 use filed::{Datum, Record, Taken, Written};
-use hex::{Hexed, MOST, put_hex, read_hex};
+use hexadecimal::{Hexed, MOST, put_hex, read_hex};
 use reading::Reading;
 use text::output::{Out, put, put_natural};
 use text::{KEPT, Number};

@@ -1,5 +1,6 @@
 -- What a line does to the meter and its buffer, and what is shown of it.
 use Rattle.std.specs.Prelude.{ℕ, true, List, [], ◌∷◌, ◌++◌, ℤ, length, replicate}
+use Rattle.core.specs.declared.rt.Stdout.{Stdout}
 use Rattle.text.specs.Line.{Heard, all_lines, ran}
 use Rattle.text.specs.Output.{Waiting, waiting, puts}
 use Rattle.register.specs.Bytes.{ascii}
@@ -101,9 +102,9 @@ unfoldable pub heard_by : Stand → Heard → Stand
 heard_by s h = stand_after s.out (effect s.meter s.buffer h)
 
 -- where it starts: a meter not started, no byte of a line, and nothing that waits
-abbrev pub begun : State
-begun = record { meter = not_started; len = 0; out = record { at = 0; ok = true } }
+abbrev pub begun : Stdout → State
+begun to = record { meter = not_started; len = 0; out = record { at = 0; ok = true; to = to } }
 
 -- what waits after a whole stream, from a buffer of 170 bytes on in which nothing is written
 abbrev pub printed_of : List ℕ → List ℕ → Waiting
-printed_of room stream = (ran heard_by (standing begun (replicate 170 unwritten) room) (all_lines stream)).out
+printed_of room stream = (ran heard_by (stand not_started (replicate 170 unwritten) (waiting 0 room)) (all_lines stream)).out

@@ -12,10 +12,10 @@ ghost use Rattle.record.specs.Configuration.{config_of};
 ghost use Rattle.replay.specs.Replay.{filled, power_step, sample_step, key_step, byte_step, as_powered, as_told, effect, shown_of, standing, heard_by, begun, printed_of};
 
 use answer::Answer;
-use libc::{STDERR_FILENO, STDIN_FILENO};
 use meter::{Meter, Outcome};
 use record::{Event, WORDS};
 use show::UNWRITTEN;
+use std::io::{Print, Read, Stdin, Stdout};
 use text::KEPT;
 use text::output::Out;
 
@@ -233,6 +233,7 @@ fn came(
 
 // Reads once, and does what came. A read that fails gives nothing.
 fn one_turn(
+    mut input: Stdin,
     block: &mut [u8],
     line: &mut [u8; KEPT],
     settings: &mut [i32; WORDS],
@@ -242,8 +243,7 @@ fn one_turn(
 ) -> Turn
     ensures { Turned heard_by block.new line.old s.len (standing s buffer.old buf.old) (standing result.state buffer.new buf.new) line.new result.state.len }
 {
-    let got = libc::read(STDIN_FILENO, &mut *block);
-    let n = io::count(got, &*block);
+    let n = input.read(&mut *block).unwrap_or(0);
     came(
         &*block,
         n,
@@ -274,6 +274,7 @@ fn end(
 // A proved loop has to end, and nothing says that the input does. So the loop counts its turns down from 2^64 - 1, a number that no
 // run uses up: at a turn each nanosecond it would take more than five hundred years.
 fn run(
+    input: Stdin,
     block: &mut [u8],
     line: &mut [u8; KEPT],
     settings: &mut [i32; WORDS],
@@ -290,6 +291,7 @@ fn run(
     let mut turns = u64::MAX;
     while turns > 0 && t.more {
         t = one_turn(
+            input,
             &mut *block,
             &mut *line,
             &mut *settings,
@@ -303,43 +305,48 @@ fn run(
 }
 
 // A meter not started, no byte of a line, and nothing that waits.
-fn begun() -> State
-    ensures { result ≡ begun }
+fn begun(to: Stdout) -> State
+    ensures { result ≡ begun to }
 {
     let o = Meter::power_up(config::nothing());
     let meter = o.meter;
     State {
         meter,
         len: 0,
-        out: Out { at: 0, ok: true },
+        out: Out {
+            at: 0,
+            ok: true,
+            to,
+        },
     }
 }
 
 // The whole of standard input, whatever it is: what waits is what is printed of all its lines.
-fn played(block: &mut [u8], buf: &mut [u8]) -> Out
+fn played(input: Stdin, to: Stdout, block: &mut [u8], buf: &mut [u8]) -> Out
     ensures { (stream : List ℕ) × (waiting result.at buf.new ≡ printed_of buf.old stream) }
 {
     let mut line = [0u8; KEPT];
     let mut settings = [0i32; WORDS];
     let mut buffer = [UNWRITTEN; 170];
     let s = run(
+        input,
         &mut *block,
         &mut line,
         &mut settings,
         &mut buffer,
         &mut *buf,
-        begun(),
+        begun(to),
     );
     let e = end(&line, &mut settings, &mut buffer, &mut *buf, s);
     e.out
 }
 
-fn main() {
+fn main(rt: HostRuntime) {
     let mut block = io::large_buffer();
     let mut buf = io::large_buffer();
-    let o = played(&mut block, &mut buf);
+    let o = played(rt.stdin(), rt.stdout(), &mut block, &mut buf);
     let out = text::output::flush(&buf, o);
     if !out.ok {
-        io::write_all(STDERR_FILENO, b"a write failed\n");
+        let _ = rt.stderr().write_all(b"a write failed\n");
     }
 }

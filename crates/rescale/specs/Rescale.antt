@@ -2,6 +2,7 @@
 -- which is said by the configuration and knows no state of the program (`printed_of`). The first is the contract of the
 -- functions that read the stream, the second that of the program; proofs/Stream joins them.
 use Rattle.std.specs.Prelude.{ℕ, ◌≡◌, true, cond, List}
+use Rattle.core.specs.declared.rt.Stdout.{Stdout}
 use Rattle.segments.specs.Segments.{no_segments}
 use Rattle.segments.specs.declared.Segments.{Segments}
 use Rattle.text.specs.Line.{Heard, all_lines, Stands, finished}
@@ -46,8 +47,8 @@ abbrev pub Finished : (line : List ℕ) (len : ℕ) (a a' : Stand) → Type 0
 Finished line len a a' = (l : List ℕ) → Stands l line len → a' ≡ finished heard_by a line len
 
 -- where it starts: no line yet, no byte of one, and nothing that waits
-abbrev pub begun : State
-begun = record { mode = Awaiting; scale = no_segments; len = 0; out = record { at = 0; ok = true } }
+abbrev pub begun : Stdout → State
+begun to = record { mode = Awaiting; scale = no_segments; len = 0; out = record { at = 0; ok = true; to = to } }
 
 -- what waits after a whole stream, from room in which nothing waits
 abbrev pub printed_of : List ℕ → List ℕ → Waiting

@@ -11,10 +11,10 @@ ghost use Rattle.text.specs.Output.{waiting};
 ghost use Rattle.rescaling.specs.Held.{opened, awaits};
 ghost use Rattle.rescale.specs.Rescale.{standing, Sound, opened_at, heard_by, Finished, begun, printed_of};
 
-use libc::{STDERR_FILENO, STDIN_FILENO};
 use record::WORDS;
 use rescaling::Mode;
 use segments::Segments;
+use std::io::{Print, Read, Stdin, Stdout};
 use text::KEPT;
 use text::output::Out;
 
@@ -162,6 +162,7 @@ fn came(
 
 // Reads once, and does what came. A read that fails gives nothing.
 fn one_turn(
+    mut input: Stdin,
     block: &mut [u8],
     line: &mut [u8; KEPT],
     settings: &mut [i32; WORDS],
@@ -172,8 +173,7 @@ fn one_turn(
     ensures sound { Sound result.state }
     ensures turned { Turned heard_by block.new line.old s.len (standing s buf.old) (standing result.state buf.new) line.new result.state.len }
 {
-    let got = libc::read(STDIN_FILENO, &mut *block);
-    let n = io::count(got, &*block);
+    let n = input.read(&mut *block).unwrap_or(0);
     came(&*block, n, &mut *line, &mut *settings, &mut *buf, s)
 }
 
@@ -191,6 +191,7 @@ fn end(line: &mut [u8; KEPT], settings: &mut [i32; WORDS], buf: &mut [u8], s: St
 // A proved loop has to end, and nothing says that the input does. So the loop counts its turns down from 2^64 - 1, a number that no
 // run uses up: at a turn each nanosecond it would take more than five hundred years.
 fn run(
+    input: Stdin,
     block: &mut [u8],
     line: &mut [u8; KEPT],
     settings: &mut [i32; WORDS],
@@ -207,42 +208,46 @@ fn run(
     };
     let mut turns = u64::MAX;
     while turns > 0 && t.more {
-        t = one_turn(&mut *block, &mut *line, &mut *settings, &mut *buf, t.state);
+        t = one_turn(input, &mut *block, &mut *line, &mut *settings, &mut *buf, t.state);
         turns -= 1;
     }
     t.state
 }
 
 // No line yet, no byte of one, and nothing that waits.
-fn begun() -> State
-    ensures { result ≡ begun }
+fn begun(to: Stdout) -> State
+    ensures { result ≡ begun to }
 {
     let scale = scaling::none();
     State {
         mode: Mode::Awaiting,
         scale,
         len: 0,
-        out: Out { at: 0, ok: true },
+        out: Out {
+            at: 0,
+            ok: true,
+            to,
+        },
     }
 }
 
 // The whole of standard input, whatever it is: what waits is what is printed of all its lines, by the configuration.
-fn rescaled(block: &mut [u8], buf: &mut [u8]) -> Out
+fn rescaled(input: Stdin, to: Stdout, block: &mut [u8], buf: &mut [u8]) -> Out
     ensures { (stream : List ℕ) × (waiting result.at buf.new ≡ printed_of buf.old stream) }
 {
     let mut line = [0u8; KEPT];
     let mut settings = [0i32; WORDS];
-    let s = run(&mut *block, &mut line, &mut settings, &mut *buf, begun());
+    let s = run(input, &mut *block, &mut line, &mut settings, &mut *buf, begun(to));
     let e = end(&mut line, &mut settings, &mut *buf, s);
     e.out
 }
 
-fn main() {
+fn main(rt: HostRuntime) {
     let mut block = io::large_buffer();
     let mut buf = io::large_buffer();
-    let o = rescaled(&mut block, &mut buf);
+    let o = rescaled(rt.stdin(), rt.stdout(), &mut block, &mut buf);
     let out = text::output::flush(&buf, o);
     if !out.ok {
-        io::write_all(STDERR_FILENO, b"a write failed\n");
+        let _ = rt.stderr().write_all(b"a write failed\n");
     }
 }

@@ -16,7 +16,7 @@ use Rattle.text.specs.Numeral.{fewest, numeral}
 use Rattle.total.specs.Total as total
 use Rattle.meter.specs.Meter.{not_started}
 use Rattle.signed.specs.Signed.{signed}
-use Rattle.hex.specs.Hex.{hex}
+use Rattle.hexadecimal.specs.Hex.{hex}
 use Rattle.show.specs.Show.{named, counted, power_line, reading_word, quotient_of, total_words, trimmed, buffer_words, streak_words, extreme_words, measured_words, setpoint_words, state_words, run_words, alarm_words, mode_words, output_words, received_words, meter_words, event_line}
 
 -- pieces as one text

@@ -19,7 +19,7 @@ use Rattle.receiver.specs.declared.Receiver.{Receiver}
 use Rattle.register.specs.Bytes.{ascii}
 use Rattle.total.specs.Total.{unit_of, quotient}
 use Rattle.total.specs.declared.Totalizer.{Totalizer}
-use Rattle.hex.specs.Hex.{hex}
+use Rattle.hexadecimal.specs.Hex.{hex}
 use Rattle.show.specs.Show.{quotient_of, kept, unwritten, trimmed, buffer_words, received_words, meter_words, is_not_started, answer_head, event_line}
 
 -- ---- the buffer without the EE at its end

@@ -6,7 +6,7 @@ use Rattle.answer.specs.declared.Answer.{Answer}
 use Rattle.register.specs.Bytes.{ascii}
 use Rattle.text.specs.Numeral.{numeral}
 use Rattle.signed.specs.Signed.{signed}
-use Rattle.hex.specs.Hex.{hex}
+use Rattle.hexadecimal.specs.Hex.{hex}
 use Rattle.reading.specs.declared.Reading.{Reading}
 use Rattle.reading.specs.declared.Reading.TheVariants as reading
 use Rattle.extremes.specs.Extremes as extremes

@@ -7,7 +7,7 @@ ghost use Rattle.show.specs.Show.{named, counted, answer_pieces, power_line, rea
 use alarm::Alarm;
 use answer::Answer;
 use extremes::{Extreme, Streak};
-use hex::put_hex;
+use hexadecimal::put_hex;
 use measured::Measured;
 use meter::Meter;
 use outputs::{Mode, Outputs};

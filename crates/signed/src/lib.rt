@@ -1,5 +1,6 @@
 // A signed number in decimal, for programs that print one.
 #![tactic(auto)]
+
 ghost use Rattle.std.specs.Prelude.{◌≡◌, nat_abs};
 ghost use Rattle.text.specs.Output.{waiting, puts};
 ghost use Rattle.signed.specs.Signed.{signed};

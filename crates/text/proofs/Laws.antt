@@ -13,7 +13,7 @@ use borrow.Author.Tests.{le-leb, lt-leb, eq-eqb, ne_eqb, ltb-true, ltb-false}
 use mir.Syntax.{Width, w64}
 use mir.Val.{SFits, hbits, to_z}
 use mir.Facts.{to_z_pos}
-use Rattle.exact.proofs.Z.{never}
+use Rattle.text.proofs.Truth.{never}
 use Rattle.text.specs.Line.{Used, scan, kept_in, kept_len, before}
 use Rattle.text.specs.Number.{is_digit, digits, value, natural_of, signed, most, signed_of, number_of}
 use Rattle.text.specs.Word.{word_end}

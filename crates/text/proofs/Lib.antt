@@ -1,3 +1,4 @@
+pub mod Truth
 pub mod Laws
 pub mod Numbers
 pub mod Lines

@@ -9,7 +9,7 @@ use lib.Dec.{leb, ltb, eqb}
 use lib.ListN.{length, take, drop, set, length-append, length-set}
 use lib.Seq.{length-take-le, take-suc-set, drop_at, append_snoc}
 use borrow.Author.Tests.{lt-ltb, le-ltb, le-leb, lt-leb, leb-true, leb-false, ltb-true, ltb-false}
-use Rattle.exact.proofs.Z.{never}
+use Rattle.text.proofs.Truth.{never}
 use Rattle.text.specs.Line.{kept_bytes, Scanned, scan, kept_in, kept_len, Heard, bytes, long, heard, kept, before, after, has, Feeds, Cut, cut_at, cut}
 
 -- ---- one byte more

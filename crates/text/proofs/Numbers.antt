@@ -12,7 +12,7 @@ use lib.IntN.{ℤ}
 use lib.ListN.{length, get_or, length-append}
 use lib.Signed.{mag}
 use borrow.Author.Tests.{le-leb, leb-true, ne_eqb, eqb-true}
-use Rattle.exact.proofs.Z.{both}
+use Rattle.text.proofs.Truth.{both}
 use Rattle.text.specs.Number.{is_digit, digits, value, natural_of, signed, most, signed_of, number_of, spelled, with_minus, Digits, Written}
 use Rattle.text.specs.declared.Natural.{Natural}
 use Rattle.text.specs.declared.Natural.TheVariants as natural

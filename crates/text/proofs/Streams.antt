@@ -9,7 +9,7 @@ use lib.Dec.{leb, eqb}
 use lib.ListN.{length, take, drop}
 use lib.Seq.{drop-length, drop-drop, length-take-le}
 use borrow.Author.Tests.{eq-eqb, ne_eqb, leb-true}
-use Rattle.exact.proofs.Z.{never}
+use Rattle.text.proofs.Truth.{never}
 use Rattle.text.specs.Line.{kept_bytes, Scanned, scan, Heard, bytes, long, heard, kept, before, after, has, Feeds, Cut, cut, lines, unended, all_lines, goes_on, Stands, ran, Carried, Turned, Streamed, finished}
 use Rattle.text.specs.declared.Step.{Step}
 use Rattle.text.proofs.Laws.{rest}

@@ -1,15 +1,14 @@
 -- Bytes that wait in a buffer, over plain values. Assumes nothing.
-use mathlib.Core.Path.{◌≡◌, refl, sym, ap, ap₂, ◌∙◌}
+use mathlib.Core.Path.{◌≡◌, refl, sym, ap, ◌∙◌}
 use mathlib.Core.Bool.{Bool, true, false, cond}
-use mathlib.Core.List.{List, [], ◌∷◌, ◌++◌, append-nil, append_assoc}
+use mathlib.Core.List.{List, [], ◌∷◌, ◌++◌, append_assoc}
 use Prim.Native.Nat.{ℕ, ◌+◌, ◌-◌, ◌≤◌, ◌<◌}
 use native.Mathlib.Omega.{arith}
 use lib.Dec.{leb}
-use lib.ListN.{length, take, drop, length-append, length-drop, drop_of_length-le}
-use lib.Seq.{take-length, take_at, drop-drop, length-take-le}
+use lib.ListN.{length, take, drop, length-append}
+use lib.Seq.{take_at, drop-drop, length-take-le}
 use borrow.Author.Tests.{le-leb, lt-leb}
 use Rattle.text.specs.Output.{Waiting, waiting, place_for, laid, put_in, waits, sent, puts}
-use Rattle.text.proofs.Laws.{rest}
 
 pub behind : (size count n : ℕ) → count + n ≤ size → count ≡ place_for size count n
 behind size count n h = rw (le-leb (count + n) size h)
@@ -21,19 +20,16 @@ pub too_big : (w : Waiting) (s : List ℕ) → length w.bytes < length s → w �
 unfolding put_in
 too_big w s h = rw (lt-leb (length s) (length w.bytes) h)
 
--- what was copied to a tail that was lent from a place on is laid in the buffer
-copied : (l s ys : List ℕ) (a : ℕ) → ys ≡ take (length s) s ++ drop (length s) (take (length l - a) (drop a l))
-    → take a l ++ (ys ++ drop (length l - a) (drop a l)) ≡ laid l a s
+-- what was copied to the part that was lent from a place on is laid in the buffer
+copied : (l s ys : List ℕ) (a : ℕ) → ys ≡ s → take a l ++ (ys ++ drop (a + length s - a) (drop a l)) ≡ laid l a s
 copied l s ys a e =
-    let m : length (drop a l) ≤ length l - a = omega (arith, length-drop a l) in
-    rw (e, rest a l, take-length s, drop-drop (length s) a l, drop_of_length-le (drop a l) m, append-nil)
+    let k : a + length s - a ≡ length s = omega arith in
+    rw (e, k, drop-drop (length s) a l)
 
-pub put_is : (l s ys : List ℕ) (count a r : ℕ) → length s ≤ length l → a ≡ place_for (length l) count (length s) → r ≡ length s
-    → ys ≡ take (length s) s ++ drop (length s) (take (length l - a) (drop a l))
-    → waiting (a + r) (take a l ++ (ys ++ drop (length l - a) (drop a l))) ≡ put_in (waiting count l) s
+pub put_is : (l s ys : List ℕ) (count a : ℕ) → length s ≤ length l → a ≡ place_for (length l) count (length s) → ys ≡ s
+    → waiting (a + length s) (take a l ++ (ys ++ drop (a + length s - a) (drop a l))) ≡ put_in (waiting count l) s
 unfolding put_in
-put_is l s ys count a r h p q e =
-    rw (le-leb (length s) (length l) h, ← p) (ap₂ waiting (ap (λ (n : ℕ). a + n) q) (copied l s ys a e))
+put_is l s ys count a h p e = rw (le-leb (length s) (length l) h, ← p) (ap (waiting (a + length s)) (copied l s ys a e))
 
 -- pieces, and then further pieces
 pub puts_append : (w : Waiting) (a b : List (List ℕ)) → puts (puts w a) b ≡ puts w (a ++ b)

@@ -4,6 +4,7 @@
 // that many bytes of the array, and any greater count is the one state "too long". So every pair of them means something, and no
 // condition has to travel with it.
 #![tactic(auto)]
+
 pub mod output;
 
 ghost use Rattle.std.specs.Prelude.{◌≡◌, ◌≤◌, length};
@@ -46,6 +47,7 @@ pub enum Flag {
 }
 
 // One byte more of a line: the array keeps it while there is room. Answers the count.
+#[tactic(auto, unfolding(crate::specs::Line::kept_in, crate::specs::Line::kept_len))]
 fn keep(line: &mut [u8; KEPT], len: usize, b: u8) -> usize
     ensures { (result ≡ kept_len len) × (line.new ≡ kept_in line.old len b) }
 {
@@ -130,6 +132,7 @@ pub fn read_natural(most: usize, s: &[u8]) -> Natural
     Natural::Is(v)
 }
 
+#[tactic(auto, unfolding(crate::specs::Number::signed_of))]
 fn with_sign(neg: bool, z: Natural) -> Number
     ensures { result ≡ signed_of neg z }
 {
@@ -169,6 +172,7 @@ pub fn read_number(s: &[u8]) -> Number
 }
 
 // A yes or no: the one byte `1` or `0`.
+#[tactic(auto, unfolding(crate::specs::Number::flag_of))]
 pub fn read_flag(s: &[u8]) -> Flag
     ensures { result ≡ flag_of s.now }
 {

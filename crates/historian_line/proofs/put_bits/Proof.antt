@@ -1,5 +1,5 @@
 -- `historian_line::put_bits` meets its contract: the bytes are put from the high one on. Assumes nothing.
-use Rattle.hex.specs.Hex.{hex}
+use Rattle.hexadecimal.specs.Hex.{hex}
 use Rattle.text.proofs.Pieces.{one, next}
 use Rattle.historian_line.specs.Line.{ended, high_first}
 use borrow.Author.Rules.{rules}

@@ -4,8 +4,8 @@ use mathlib.Core.List.{List}
 use Prim.Native.Nat.{ℕ, ◌-◌, ◌≤◌}
 use lib.ListN.{length, take, drop}
 use Rattle.filed.specs.Filed.{has_bits_in, taken_of}
-use Rattle.hex.specs.Hex.{hexed}
-use Rattle.hex.specs.declared.Hexed.TheVariants.{Bytes}
+use Rattle.hexadecimal.specs.Hex.{hexed}
+use Rattle.hexadecimal.specs.declared.Hexed.TheVariants.{Bytes}
 use Rattle.text.proofs.Pieces.{alike}
 use Rattle.historian_line.specs.Line.{taken_line}
 use Rattle.historian_line.proofs.Texts.{fits_in, said_first, read_known, read_unknown, shows}

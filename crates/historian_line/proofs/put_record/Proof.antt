@@ -5,7 +5,7 @@ use mir.Syntax.{w32}
 use mir.ValLaws.{to_z-of_z}
 use Rattle.text.proofs.Pieces.{one, next, alike}
 use Rattle.filed.specs.Filed.{written_of, left}
-use Rattle.hex.specs.Hex.{hex}
+use Rattle.hexadecimal.specs.Hex.{hex}
 use Rattle.historian_line.specs.Line.{ended}
 use Rattle.historian_line.proofs.Records.{zeros, record_shown, nothing_shown}
 use borrow.Author.Rules.{rules}

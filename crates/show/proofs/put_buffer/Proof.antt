@@ -3,7 +3,7 @@ use mathlib.Core.Path.{ap, ◌∙◌}
 use mathlib.Core.List.{[], ◌∷◌}
 use Rattle.text.proofs.Laws.{part}
 use Rattle.register.specs.Bytes.{ascii}
-use Rattle.hex.specs.Hex.{hex}
+use Rattle.hexadecimal.specs.Hex.{hex}
 use Rattle.show.specs.Show.{trimmed, buffer_words}
 use Rattle.text.proofs.Pieces.{one, next, alike}
 use borrow.Author.Rules.{rules}
