@@ -1,4 +1,5 @@
 -- `extremes::compared` meets its contract: what each callee ensures, put together, with the numbers read back from their bits. Assumes nothing.
+use mathlib.Core.Path.{◌∙◌}
 use mir.Facts.{to_z-of_z}
 use Rattle.exact.proofs.Z.{back32}
 use Rattle.extremes.specs.Extremes.{compared}
@@ -16,8 +17,8 @@ unfolding compared
 returns-in-Holds c =
     let k = c in
     let s = k in
-    rw (
-      c.moved.ensures,
+    c.moved.ensures
+    ∙ rw (
       back32 c.closest.result c.closest.type_inv,
       c.closest.ensures,
       c.counted-next.ensures,
@@ -28,4 +29,6 @@ returns-in-Holds c =
       to_z-of_z s.ranges.capture,
       back32 k.in-Holds.k k.in-Holds.known_told-1-own.given.0.1,
       k.in-Holds.is,
+      -- the number that was kept is put back into the whole
+      ← k.in-Holds.is,
     )

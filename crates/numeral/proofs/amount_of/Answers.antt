@@ -15,6 +15,7 @@ use Rattle.numeral.specs.Number.{amount}
 use Rattle.numeral.proofs.Digits.{left, left_start, left_digit, left_point, left_other, left_end}
 use Rattle.register.proofs.Ranges.{in_range, below_range, above_range}
 use Rattle.numeral.proofs.amount_of.Goals as goal
+use Rattle.numeral.proofs.amount_of.Goals.{in-46, in-48-to-57}
 
 pub loop-i-init : goal.loop-i-init
 loop-i-init c = (omega arith, omega arith, left_start c.args.s.now)
@@ -66,8 +67,11 @@ loop-i-preserved c =
     let b = get_or d l.i 0 in
     let t = drop (l.i + 1) d in (
       omega arith,
-      ⊎_elim (λ w. omega arith) (λ w. rw w.4 (mod-lt (10 * l.n + w.3.result) (omega arith))) c.match-b.branch,
-      ⊎_elim (λ w. e ∙ left_point l.n l.seen b t w.0.keys1 ∙ rw (w.1, w.2)) (λ w. e ∙ left_digit l.n l.seen b t (in_range (byte "0") (byte "9") b (omega arith) (omega arith)) ∙ rw (w.5, w.4, w.3.ensures)) c.match-b.branch,
+      elim c.match-b.branch [ in-46 w ↦ rw w.n-is (omega arith) | in-48-to-57 w ↦ rw w.n-is (mod-lt (10 * l.n + w.digit.result) (omega arith)) ],
+      elim c.match-b.branch [
+        in-46 w ↦ e ∙ left_point l.n l.seen b t w.in-46.is ∙ rw (w.n-is, w.seen-is)
+      | in-48-to-57 w ↦ e ∙ left_digit l.n l.seen b t (in_range (byte "0") (byte "9") b (omega arith) (omega arith)) ∙ rw (w.seen-is, w.n-is, w.digit.ensures)
+      ],
     )
 
 pub returns-then-seen : goal.returns-then-seen
