@@ -81,7 +81,7 @@ on_something inputs displays rises runs last step x =
 
 read_something : (s : Segments) (x : ℤ) → is_nothing (read s x) ≡ false
 read_something s x =
-    sources.by_source (λ (r : Reading). is_nothing r ≡ false) s.source (read_on s.inputs s.displays s.rises s.runs s.last s.step) s.step x
+    sources.by_source_lem (λ (r : Reading). is_nothing r ≡ false) s.source (read_on s.inputs s.displays s.rises s.runs s.last s.step) s.step x
     (on_something s.inputs s.displays s.rises s.runs s.last s.step x) refl refl judged_something
 
 -- a number of the display range is neither of the two that stand for Under and Over

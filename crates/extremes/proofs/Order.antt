@@ -56,6 +56,7 @@ module _ (side : Side) where
 
   only_itself : (v u : ℤ) → OneOf u (v ∷ []) → beyond side v u ≡ false
   only_itself v _ (here _) = beyond_self side v
+  only_itself v u (further _ _ o) = elim o [ ]
 
   -- the run that some readings make, the newest first
   abbrev pub streak_of : List ℤ → Streak

@@ -59,7 +59,7 @@ last_five_found ds = last_five_by ds (leb 5 (length ds)) refl
 
 worth_onward : {n : ℕ} {a : List ℕ} → Worth n a → (ds : List ℕ) → Worth (onward n ds) (a ++ ds)
 worth_onward {n} {a} w [] = subst (Worth n) (sym (append-nil a)) w
-worth_onward {n} {a} w (d ∷ ds) = subst (Worth (onward (10 * n + d) ds)) (append_assoc a (d ∷ []) ds) (worth_onward (form.more d w) ds)
+worth_onward {n} {a} w (d ∷ ds) = subst (Worth (onward (10 * n + d) ds)) (append_assoc a (d ∷ []) ds) (worth_onward {n = 10 * n + d} {a = a ++ d ∷ []} (form.more d w) ds)
 
 worth_found : (ds : List ℕ) → Worth (value ds) ds
 worth_found ds = worth_onward form.zero ds
