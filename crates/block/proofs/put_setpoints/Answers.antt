@@ -73,7 +73,7 @@ writable s (suc (suc (suc zero))) h = value_writable s.args.style s.args.values 
 writable s (suc (suc (suc (suc i)))) h = absurd (omega arith)
 
 back : (s : Start) (i : ℕ) → i < 4 → to_z w32 (of_z w32 (get_or s.args.values.setpoints i (pos 0))) ≡ get_or s.args.values.setpoints i (pos 0)
-back s i h = to_z-of_z (abs_fits _ (omega (arith, (writable s i h).fits.short)))
+back s i h = to_z-of_z {w = w32} (abs_fits _ (omega (arith, (writable s i h).fits.short)))
 
 pub put_chosen-at-requires : goal.put_chosen-at-requires
 put_chosen-at-requires c =
