@@ -1,5 +1,6 @@
 // One alarm: through a sample, a reset and a written setpoint.
 #![tactic(auto)]
+
 ghost use Rattle.std.specs.Prelude.{◌≡◌};
 ghost use Rattle.alarm.specs.Alarm.{above, below, on_condition, off_condition, awaited, delay, off, moved, sampled, reset, written};
 

@@ -1,5 +1,6 @@
 // The analog code: where a reading lies between the low and the high display, in steps of 4,095.
 #![tactic(auto)]
+
 ghost use Rattle.std.specs.Prelude.{◌≡◌, false, pos, ◌-ℤ◌, ◌*ℤ◌};
 ghost use Rattle.exact.specs.Sign.{eq_z};
 ghost use Rattle.analog.specs.Analog.{floor_by, held, code_of};

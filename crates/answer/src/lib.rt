@@ -1,6 +1,7 @@
 // The numbered answers of document 01: one case for each row of its table, and the numbers that the table gives them. Its row 7 is
 // withdrawn, since no number that is written lies outside its range; the others keep their numbers.
 #![tactic(auto)]
+
 ghost use Rattle.std.specs.Prelude.{◌≡◌};
 ghost use Rattle.answer.specs.Answer.{number, value};
 

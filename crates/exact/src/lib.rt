@@ -1,5 +1,6 @@
 // Exact numbers: rounding, cutting and flooring of fractions by signed divisions, and the two constant tables of document 01.
 #![tactic(auto)]
+
 ghost use Rattle.std.specs.Prelude.{◌≡◌, ◌≤◌, ◌<◌, ◌^◌, nat_abs};
 ghost use Rattle.exact.specs.Sign.{within};
 ghost use Rattle.exact.specs.Exact.{Divisor, Fraction, nearest, to_step, cut, floor};

@@ -1,5 +1,5 @@
 -- What a completed run gives, said from the history alone.
-use Rattle.std.specs.Prelude.{◌≡◌, true, false, cond, List, [], ◌∷◌, ◌++◌, ◌≢◌, ℕ, ◌≤◌, ◌<◌, ℤ, length}
+use Rattle.std.specs.Prelude.{◌≡◌, true, false, cond, List, ◌∷◌, ◌++◌, ◌≢◌, ℕ, ◌≤◌, ◌<◌, ℤ, length}
 use Rattle.reading.specs.declared.Reading.{Reading}
 use Rattle.reading.specs.declared.Reading.TheVariants.{Number}
 use Rattle.run.specs.Run.{samples}

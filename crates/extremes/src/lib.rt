@@ -1,6 +1,7 @@
 // Max and min: the largest and the smallest number read, each with the run of samples that lie beyond it. A completed run gives the
 // reading of it that is nearest to what was kept, so that one spike among other readings is never taken.
 #![tactic(auto)]
+
 ghost use Rattle.std.specs.Prelude.{◌≡◌};
 ghost use Rattle.extremes.specs.Extremes.{taken, beyond, nearer, so_many, closest, moved, compared, sampled, reset, shown, remembered, sound};
 

@@ -1,5 +1,6 @@
 // The 12 data bytes of a reply line: a number with its decimal places, or a mark, right-justified.
 #![tactic(auto)]
+
 ghost use Rattle.std.specs.Prelude.{◌≡◌, ◌-◌, ◌≤◌, ◌<◌, ◌^◌, nat_abs, length, replicate};
 ghost use Rattle.register.specs.Bytes.{byte};
 ghost use Rattle.field.specs.Field.{digit, digits, whole, fraction, sign, number, field, at_right, Showable};

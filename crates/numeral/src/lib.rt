@@ -1,5 +1,6 @@
 // A V number, read from its bytes and held to the limits of the register that it is for.
 #![tactic(auto)]
+
 ghost use Rattle.std.specs.Prelude.{◌≡◌, ◌<◌, pos, neg_ℤ};
 ghost use Rattle.numeral.specs.Number.{amount, held_by, number};
 

@@ -3,10 +3,10 @@
 use mathlib.Core.Path.{◌≡◌, refl, sym, ap, ◌∙◌}
 use mathlib.Core.Bool.{Bool, true, false, cond}
 use mathlib.Core.List.{List}
-use Prim.Native.Nat.{ℕ, zero, suc, ◌+◌, ◌*◌, ◌-◌, ◌≤◌, ◌<◌}
+use Prim.Native.Nat.{ℕ, zero, suc, ◌+◌, ◌-◌, ◌≤◌, ◌<◌}
 use native.Mathlib.Omega.{arith}
 use native.Mathlib.Numerals.{add-one}
-use lib.IntN.{ℤ, pos, nat_abs, ◌+ℤ◌, ◌-ℤ◌, ◌*ℤ◌, +ℤ_invr, +ℤ_idr, +ℤ_comm, -ℤ-+ℤ_cancel, zero-*ℤ, *ℤ_comm}
+use lib.IntN.{ℤ, pos, nat_abs, ◌-ℤ◌, ◌*ℤ◌, +ℤ_invr, +ℤ_idr, +ℤ_comm, -ℤ-+ℤ_cancel, zero-*ℤ, *ℤ_comm}
 use lib.Signed.{lt_z}
 use Rattle.exact.specs.Sign.{minus}
 use Rattle.exact.specs.Exact.{nearest, to_step}

@@ -1,5 +1,6 @@
 // From an input to a reading.
 #![tactic(auto)]
+
 ghost use Rattle.std.specs.Prelude.{◌≡◌, ◌&&◌, ◌≤◌, ◌<◌};
 ghost use Rattle.reading.specs.Reading.{in_input, in_display, judged, displayable, up_to, point_in, rises_at, points_in};
 

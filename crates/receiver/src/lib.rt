@@ -4,6 +4,7 @@
 // string is left from earlier ones and means nothing.
 // At `*` and `$` the caller judges the string where it stands, and empties the receiver afterwards.
 #![tactic(auto)]
+
 ghost use Rattle.std.specs.Prelude.{◌≡◌};
 ghost use Rattle.receiver.specs.Receiver.{kind, silent, over, store, emptied};
 

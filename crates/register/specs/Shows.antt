@@ -3,7 +3,6 @@
 -- register that comes behind these ten in the list has no row here.
 use Rattle.std.specs.Prelude.{ℕ, Bool, true, false, List, [], ◌∷◌, ℤ, pos, length, get_or}
 use Rattle.exact.specs.Sign.{minus}
-use Rattle.register.specs.declared.Limits.{Limits}
 use Rattle.register.specs.declared.Shows.{Shows}
 
 abbrev row : ℤ → ℤ → Bool → Bool → Bool → Shows

@@ -1,6 +1,7 @@
 // The registers: letter, mnemonic, permitted commands and the limits of what V writes, in constant tables; what a block print may choose
 // of them; and beside them what a line of each can show.
 #![tactic(auto)]
+
 ghost use Rattle.std.specs.Prelude.{◌≡◌};
 ghost use Rattle.register.specs.Registers.{register_of, entry, index};
 ghost use Rattle.register.specs.Shows.{shows_at};

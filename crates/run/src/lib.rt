@@ -1,5 +1,6 @@
 // Runs: how many samples in succession have met a condition, and when a delay is complete. Alarms and max and min count by it.
 #![tactic(auto)]
+
 ghost use Rattle.std.specs.Prelude.{◌≡◌};
 ghost use Rattle.run.specs.Run.{samples, counted};
 

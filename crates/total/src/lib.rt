@@ -1,5 +1,6 @@
 // The total: a sum that samples or batch keys add to, and the cut quotient of it that is shown.
 #![tactic(auto)]
+
 ghost use Rattle.std.specs.Prelude.{◌≡◌, true, ◌^◌, ◌≤◌, pos, nat_abs};
 ghost use Rattle.total.specs.Total.{Timed, unit_of, quotient, summed, added, counts, sample_adds, batch_adds, sampled, batched, reset, shown, in_range};
 

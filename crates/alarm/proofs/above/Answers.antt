@@ -1,5 +1,4 @@
 -- `alarm::above` meets its contract: Over is above, and Under and nothing are not; a number is read back from its bits. Assumes nothing.
-use borrow.Author.Rules.{rules}
 use mir.Syntax.{w32}
 use mir.Val.{SFits}
 use mir.Facts.{to_z-of_z}

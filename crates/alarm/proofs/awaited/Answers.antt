@@ -1,5 +1,4 @@
 -- `alarm::awaited` meets its contract: state and latch pick the case, and the condition is what the callee ensures. Assumes nothing.
-use borrow.Author.Rules.{rules}
 use mathlib.Core.Path.{◌∙◌}
 use Rattle.alarm.specs.Alarm.{awaited}
 use Rattle.alarm.proofs.awaited.Goals as goal

@@ -1,5 +1,4 @@
 -- `alarm::moved` meets its contract: each arm of the match is a case of the definition, and the setpoint is read back from its bits. Assumes nothing.
-use borrow.Author.Rules.{rules}
 use Rattle.exact.proofs.Z.{back32}
 use Rattle.alarm.specs.Alarm.{moved}
 use Rattle.alarm.proofs.moved.Goals as goal

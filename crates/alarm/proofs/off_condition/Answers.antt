@@ -1,6 +1,5 @@
 -- `alarm::off_condition` meets its contract: what the callee of each side ensures, turned; setpoint and hysteresis are read back from their bits,
 -- and each number that is made of them fits 64 bits. Assumes nothing.
-use borrow.Author.Rules.{rules}
 use native.Mathlib.Omega.{arith}
 use mathlib.Core.Path.{◌∙◌}
 use lib.IntN.{ℤ, pos, ◌+ℤ◌, ◌-ℤ◌}

@@ -1,5 +1,4 @@
 -- `alarm::on_condition` meets its contract: what the callee of each side ensures, with the setpoint read back from its bits. Assumes nothing.
-use borrow.Author.Rules.{rules}
 use mir.Syntax.{w32}
 use mir.Val.{SFits}
 use Rattle.exact.proofs.Z.{widens, widened}

@@ -1,5 +1,4 @@
 -- `alarm::reset` meets its contract: the setpoint is read back from its bits. Assumes nothing.
-use borrow.Author.Rules.{rules}
 use Rattle.exact.proofs.Z.{back32}
 use Rattle.alarm.specs.Alarm.{reset}
 use Rattle.alarm.proofs.reset.Goals as goal

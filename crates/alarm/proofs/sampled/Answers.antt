@@ -1,5 +1,4 @@
 -- `alarm::sampled` meets its contract: what each callee ensures, put together, with the delay read back from its bits. Assumes nothing.
-use borrow.Author.Rules.{rules}
 use Rattle.exact.proofs.Z.{back32}
 use Rattle.alarm.specs.Alarm.{sampled}
 use Rattle.alarm.proofs.sampled.Goals as goal

@@ -1,5 +1,4 @@
 -- `analog::code_of` meets its contract: each kind of reading has its case, and a number goes through `scaled` and `held`. Assumes nothing.
-use borrow.Author.Rules.{rules}
 use mathlib.Core.Path.{◌∙◌}
 use mir.Facts.{to_z-of_z}
 use Rattle.exact.proofs.Z.{back32, back64}

@@ -1,13 +1,12 @@
 -- `exact::among` meets its contract. The invariant: whether n stands in the table is whether it stands in what is left of it. Assumes nothing.
 use native.Mathlib.Omega.{arith}
 use mathlib.Core.Path.{◌≡◌, refl, sym, ◌∙◌}
-use Prim.Native.Nat.{◌≤◌, ◌-◌}
 use borrow.Author.Tests.{eq-eqb, ne_eqb}
 use lib.Dec.{eqb}
 use lib.ListN.{length, get_or, drop}
 use lib.IntN.{pos}
 use mir.Syntax.{w32}
-use mir.Val.{to_z, of_z}
+use mir.Val.{of_z}
 use mir.Facts.{to_z-of_z}
 use Rattle.exact.specs.Sign.{eq_z}
 use Rattle.exact.specs.Tables.{among}

@@ -1,17 +1,7 @@
-use native.Mathlib.Omega.{arith}
-use mathlib.Core.Path.{◌≡◌, refl, sym, ◌∙◌}
+use mathlib.Core.Path.{◌≡◌}
 use Prim.Native.Nat.{◌≤◌, ◌-◌}
-use borrow.Author.Tests.{eq-eqb, ne_eqb}
-use lib.Dec.{eqb}
-use lib.ListN.{length, get_or, drop}
-use lib.IntN.{pos}
-use mir.Syntax.{w32}
-use mir.Val.{to_z, of_z}
-use mir.Facts.{to_z-of_z}
-use Rattle.exact.specs.Sign.{eq_z}
+use lib.ListN.{length, drop}
 use Rattle.exact.specs.Tables.{among}
-use Rattle.exact.proofs.Z.{eq32}
-use Rattle.exact.proofs.Table.{among_here, among_next, among_end}
 use Rattle.exact.proofs.among.Given as goal
 
 abbrev pub invariant-loop-i : goal.invariant-loop-i

@@ -1,5 +1,4 @@
 -- `exact::is_step` meets its contract: the constant table is the definition's list. Assumes nothing.
-use borrow.Author.Rules.{rules}
 use mathlib.Core.Path.{ap, ◌∙◌}
 use lib.IntN.{ℤ}
 use mir.Facts.{to_z-of_z}

@@ -1,5 +1,4 @@
 -- `exact::power_of_ten` meets its contract: the table's rule at the entry. Assumes nothing.
-use borrow.Author.Rules.{rules}
 use Rattle.exact.proofs.Table.{power_at}
 use Rattle.exact.proofs.power_of_ten.Goals as goal
 

@@ -1,5 +1,4 @@
 -- `extremes::beyond` meets its contract: the side says which way the two numbers, read back from their bits, are compared. Assumes nothing.
-use borrow.Author.Rules.{rules}
 use mir.Facts.{to_z-of_z}
 use Rattle.extremes.specs.Extremes.{beyond}
 use Rattle.extremes.proofs.beyond.Goals as goal

@@ -2,7 +2,6 @@
 use mathlib.Core.Path.{◌∙◌}
 use mir.Facts.{to_z-of_z}
 use Rattle.exact.proofs.Z.{back32}
-use borrow.Author.Rules.{rules}
 use Rattle.extremes.proofs.closest.Goals as goal
 
 pub returns-in-Idle : goal.returns-in-Idle

@@ -3,7 +3,6 @@ use mathlib.Core.Path.{◌∙◌}
 use mir.Facts.{to_z-of_z}
 use Rattle.exact.proofs.Z.{back32}
 use Rattle.extremes.specs.Extremes.{compared}
-use borrow.Author.Rules.{rules}
 use Rattle.extremes.proofs.compared.Goals as goal
 
 pub returns-in-Empty : goal.returns-in-Empty

@@ -1,7 +1,6 @@
 -- `extremes::moved` meets its contract: each arm of the match is a case of the definition. Assumes nothing.
 use mir.Facts.{to_z-of_z}
 use Rattle.extremes.specs.Extremes.{moved}
-use borrow.Author.Rules.{rules}
 use Rattle.extremes.proofs.moved.Goals as goal
 
 pub returns-in-Broken : goal.returns-in-Broken

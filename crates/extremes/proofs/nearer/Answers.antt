@@ -1,6 +1,5 @@
 -- `extremes::nearer` meets its contract: the test says which of the two numbers, read back from their bits, it is. Assumes nothing.
 use mathlib.Core.Path.{sym, ◌∙◌}
-use borrow.Author.Rules.{rules}
 use mir.Facts.{to_z-of_z}
 use Rattle.extremes.proofs.nearer.Goals as goal
 

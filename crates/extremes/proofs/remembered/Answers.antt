@@ -1,6 +1,5 @@
 -- `extremes::remembered` meets its contract: each arm of the match is a case of the definition. Assumes nothing.
 use Rattle.exact.proofs.Z.{back32}
-use borrow.Author.Rules.{rules}
 use Rattle.extremes.proofs.remembered.Goals as goal
 
 pub returns-in-Lasts : goal.returns-in-Lasts

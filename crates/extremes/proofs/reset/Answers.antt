@@ -1,7 +1,6 @@
 -- `extremes::reset` meets its contract: each arm of the match is a case of the definition. Assumes nothing.
 use Rattle.exact.proofs.Z.{back32}
 use Rattle.extremes.specs.Extremes.{reset}
-use borrow.Author.Rules.{rules}
 use Rattle.extremes.proofs.reset.Goals as goal
 
 pub returns-in-Nothing : goal.returns-in-Nothing

@@ -1,5 +1,4 @@
 -- `extremes::sampled` meets its contract: each arm of the match is a case of the definition, and a number is `compared`. Assumes nothing.
-use borrow.Author.Rules.{rules}
 use mir.Facts.{to_z-of_z}
 use Rattle.exact.proofs.Z.{back32}
 use Rattle.extremes.specs.Extremes.{sampled}

@@ -1,5 +1,4 @@
 -- `extremes::shown` meets its contract: each arm of the match is a case of the definition. Assumes nothing.
-use borrow.Author.Rules.{rules}
 use Rattle.exact.proofs.Z.{back32}
 use Rattle.extremes.specs.Extremes.{shown}
 use Rattle.extremes.proofs.shown.Goals as goal

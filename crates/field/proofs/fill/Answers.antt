@@ -1,5 +1,4 @@
 -- `field::fill` meets its contract: spaces stand in the whole part, and the mark or the number is put at their right end. Assumes nothing.
-use borrow.Author.Rules.{rules}
 use native.Mathlib.Omega.{arith}
 use mathlib.Core.Path.{◌≡◌, ap, ◌∙◌}
 use mathlib.Core.List.{List, ◌++◌}

@@ -2,9 +2,9 @@
 use borrow.Author.Rules.{rules}
 use native.Mathlib.Omega.{arith}
 use mathlib.Core.Path.{◌≡◌, refl, sym, ◌∙◌}
-use mathlib.Core.List.{◌++◌, append-nil}
-use Prim.Native.Nat.{◌≤◌, ◌-◌, ◌/◌}
-use lib.ListN.{length, drop, length-set}
+use mathlib.Core.List.{append-nil}
+use Prim.Native.Nat.{◌-◌, ◌/◌}
+use lib.ListN.{length-set}
 use lib.Seq.{drop-length}
 use Rattle.field.specs.Field.{digits}
 use Rattle.field.proofs.Digits.{digits_last, one_down}

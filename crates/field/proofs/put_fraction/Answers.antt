@@ -1,5 +1,4 @@
 -- `field::put_fraction` meets its contract: with no places nothing is put, and else the point stands before a tail of digits. Assumes nothing.
-use borrow.Author.Rules.{rules}
 use native.Mathlib.Omega.{arith}
 use mathlib.Core.Path.{sym}
 use Prim.Native.Nat.{◌-◌}

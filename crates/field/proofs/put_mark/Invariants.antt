@@ -1,12 +1,6 @@
-use borrow.Author.Rules.{rules}
-use native.Mathlib.Omega.{arith}
-use mathlib.Core.Path.{◌≡◌, refl, sym, ap, ◌∙◌}
-use mathlib.Core.List.{List, [], ◌∷◌}
-use Prim.Native.Nat.{ℕ, suc, ◌+◌, ◌≤◌, ◌<◌, ◌-◌}
-use lib.ListN.{length, take, drop, get_or, length-set, take-append-drop}
-use lib.Seq.{drop-length, drop-cons, take-set-le}
-use Rattle.field.specs.Field.{at_right}
-use Rattle.field.proofs.Digits.{one_down, agree_before}
+use mathlib.Core.Path.{◌≡◌}
+use Prim.Native.Nat.{◌+◌, ◌≤◌}
+use lib.ListN.{length, take, drop}
 use Rattle.field.proofs.put_mark.Given as goal
 
 abbrev pub invariant-loop-i : goal.invariant-loop-i

@@ -1,5 +1,4 @@
 -- `field::put_number` meets its contract: each of the three parts is put at the right end of what the one before it left. Assumes nothing.
-use borrow.Author.Rules.{rules}
 use native.Mathlib.Omega.{arith}
 use mathlib.Core.Path.{◌≡◌, refl, ap, ◌∙◌}
 use mathlib.Core.List.{◌++◌}

@@ -1,5 +1,4 @@
 -- `field::put_sign` meets its contract: a number below zero has one byte of sign, and any other none. Assumes nothing.
-use borrow.Author.Rules.{rules}
 use native.Mathlib.Omega.{arith}
 use mathlib.Core.Path.{◌≡◌, refl, sym, ap}
 use mathlib.Core.List.{[], ◌∷◌}

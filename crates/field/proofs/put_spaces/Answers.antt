@@ -3,8 +3,8 @@ use borrow.Author.Rules.{rules}
 use native.Mathlib.Omega.{arith}
 use mathlib.Core.Path.{◌≡◌, refl, sym, ◌∙◌}
 use mathlib.Core.List.{[]}
-use Prim.Native.Nat.{suc, ◌≤◌, ◌-◌}
-use lib.ListN.{length, drop, replicate, length-set}
+use Prim.Native.Nat.{suc, ◌-◌}
+use lib.ListN.{length, length-set}
 use lib.Seq.{drop-length}
 use Rattle.field.proofs.Digits.{one_down}
 use Rattle.field.proofs.put_spaces.Goals as goal

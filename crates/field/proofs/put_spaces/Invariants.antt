@@ -1,11 +1,6 @@
-use borrow.Author.Rules.{rules}
-use native.Mathlib.Omega.{arith}
-use mathlib.Core.Path.{◌≡◌, refl, sym, ◌∙◌}
-use mathlib.Core.List.{[]}
-use Prim.Native.Nat.{suc, ◌≤◌, ◌-◌}
-use lib.ListN.{length, drop, replicate, length-set}
-use lib.Seq.{drop-length}
-use Rattle.field.proofs.Digits.{one_down}
+use mathlib.Core.Path.{◌≡◌}
+use Prim.Native.Nat.{◌≤◌, ◌-◌}
+use lib.ListN.{length, drop, replicate}
 use Rattle.field.proofs.put_spaces.Given as goal
 
 abbrev pub invariant-loop-start : goal.invariant-loop-start

@@ -2,10 +2,10 @@
 -- has changed. Assumes nothing.
 use borrow.Author.Rules.{rules}
 use native.Mathlib.Omega.{arith}
-use mathlib.Core.Path.{◌≡◌, refl, sym, ap, ◌∙◌}
+use mathlib.Core.Path.{refl, sym, ap, ◌∙◌}
 use mathlib.Core.List.{List, [], ◌∷◌, ◌++◌, append-nil}
-use Prim.Native.Nat.{ℕ, ◌≤◌, ◌<◌, ◌-◌, ◌/◌, ◌^◌}
-use lib.ListN.{length, take, drop, length-append, length-set}
+use Prim.Native.Nat.{ℕ, ◌-◌, ◌/◌}
+use lib.ListN.{length, drop, length-append, length-set}
 use lib.Seq.{drop-length, take-set-le}
 use Rattle.field.specs.Field.{digit, whole}
 use Rattle.field.proofs.Digits.{whole_one, whole_some, whole_tens, one_down, agree_before, first_put}

@@ -1,12 +1,8 @@
-use borrow.Author.Rules.{rules}
-use native.Mathlib.Omega.{arith}
-use mathlib.Core.Path.{◌≡◌, refl, sym, ap, ◌∙◌}
-use mathlib.Core.List.{List, [], ◌∷◌, ◌++◌, append-nil}
-use Prim.Native.Nat.{ℕ, ◌≤◌, ◌<◌, ◌-◌, ◌/◌, ◌^◌}
-use lib.ListN.{length, take, drop, length-append, length-set}
-use lib.Seq.{drop-length, take-set-le}
-use Rattle.field.specs.Field.{digit, whole}
-use Rattle.field.proofs.Digits.{whole_one, whole_some, whole_tens, one_down, agree_before, first_put}
+use mathlib.Core.Path.{◌≡◌}
+use mathlib.Core.List.{◌++◌}
+use Prim.Native.Nat.{◌≤◌, ◌<◌, ◌^◌}
+use lib.ListN.{length, take, drop}
+use Rattle.field.specs.Field.{whole}
 use Rattle.field.proofs.put_whole.Given as goal
 
 abbrev pub invariant-loop-left : goal.invariant-loop-left

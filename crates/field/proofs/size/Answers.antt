@@ -1,5 +1,4 @@
 -- `field::size` meets its contract: a number below zero is taken from zero, and fits. Assumes nothing.
-use borrow.Author.Rules.{rules}
 use native.Mathlib.Omega.{arith}
 use mathlib.Core.Path.{◌≡◌, ap, ◌∙◌}
 use lib.IntN.{neg_ℤ, pos, ◌-ℤ◌, nat_abs}

@@ -1,11 +1,9 @@
 -- `numeral::amount_of` meets its contract: the loop's invariant is that the whole number says what the rest of it makes of what was read. Assumes nothing.
-use Prim.Native.Nat.{ℕ, ◌+◌, ◌*◌, ◌-◌, ◌≤◌, ◌<◌}
+use Prim.Native.Nat.{ℕ, ◌+◌, ◌*◌, ◌<◌}
 use native.Mathlib.Omega.{arith}
 use native.Mathlib.Numerals.{add-one}
 use native.Mathlib.Nat.{mod-lt}
-use borrow.Author.Rules.{rules}
 use mathlib.Core.Path.{◌≡◌, sym, ◌∙◌}
-use mathlib.Core.Logic.{⊎_elim}
 use mathlib.Core.Bool.{Bool}
 use mathlib.Core.List.{List, ◌∷◌}
 use lib.ListN.{length, get_or, drop}
@@ -69,8 +67,8 @@ loop-i-preserved c =
       omega arith,
       elim c.match-b.branch [ in-46 w ↦ rw w.n-is (omega arith) | in-48-to-57 w ↦ rw w.n-is (mod-lt (10 * l.n + w.digit.result) (omega arith)) ],
       elim c.match-b.branch [
-        in-46 w ↦ e ∙ left_point l.n l.seen b t w.in-46.is ∙ rw (w.n-is, w.seen-is)
-      | in-48-to-57 w ↦ e ∙ left_digit l.n l.seen b t (in_range (byte "0") (byte "9") b (omega arith) (omega arith)) ∙ rw (w.seen-is, w.n-is, w.digit.ensures)
+        | in-46 w ↦ e ∙ left_point l.n l.seen b t w.in-46.is ∙ rw (w.n-is, w.seen-is)
+        | in-48-to-57 w ↦ e ∙ left_digit l.n l.seen b t (in_range (byte "0") (byte "9") b (omega arith) (omega arith)) ∙ rw (w.seen-is, w.n-is, w.digit.ensures)
       ],
     )
 

@@ -1,5 +1,4 @@
 -- `numeral::minus` meets its contract: 0 less a number of five digits fits a signed 32-bit number. Assumes nothing.
-use borrow.Author.Rules.{rules}
 use native.Mathlib.Omega.{arith}
 use mathlib.Core.Path.{◌≡◌, sym, ap, subst, ◌∙◌}
 use Prim.Native.Nat.{ℕ, zero, suc, ◌<◌}

@@ -10,7 +10,6 @@ use Rattle.exact.proofs.Z.{back32}
 use Rattle.numeral.specs.Number.{amount, held_by, number}
 use Rattle.numeral.proofs.Lists.{none, behind, split}
 use Rattle.numeral.proofs.Digits.{small}
-use borrow.Author.Rules.{rules}
 use Rattle.numeral.proofs.number_of.Goals as goal
 
 pub returns-then-s-eq0 : goal.returns-then-s-eq0

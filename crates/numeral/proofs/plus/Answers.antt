@@ -1,5 +1,4 @@
 -- `numeral::plus` meets its contract: a number of five digits fits a signed 32-bit number. Assumes nothing.
-use borrow.Author.Rules.{rules}
 use native.Mathlib.Omega.{arith}
 use mir.Syntax.{w32}
 use mir.Facts.{to_z_pos}

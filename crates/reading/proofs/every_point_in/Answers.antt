@@ -1,9 +1,7 @@
 -- `reading::every_point_in` meets its contract. The invariant: what is kept says of the points passed whether all lie in their ranges.
 -- Assumes nothing.
-use borrow.Author.Rules.{rules}
 use native.Mathlib.Omega.{arith}
 use mathlib.Core.Path.{◌≡◌, refl, sym, ap, ◌∙◌}
-use Prim.Native.Nat.{◌≤◌, ◌-◌}
 use Rattle.exact.proofs.Z.{back32}
 use Rattle.reading.specs.Reading.{point, up_to, point_in}
 use Rattle.reading.proofs.Walk.{walk_next}

@@ -1,10 +1,6 @@
-use borrow.Author.Rules.{rules}
-use native.Mathlib.Omega.{arith}
-use mathlib.Core.Path.{◌≡◌, refl, sym, ap, ◌∙◌}
+use mathlib.Core.Path.{◌≡◌}
 use Prim.Native.Nat.{◌≤◌, ◌-◌}
-use Rattle.exact.proofs.Z.{back32}
-use Rattle.reading.specs.Reading.{point, up_to, point_in}
-use Rattle.reading.proofs.Walk.{walk_next}
+use Rattle.reading.specs.Reading.{up_to, point_in}
 use Rattle.reading.proofs.every_point_in.Given as goal
 
 abbrev pub invariant-loop-i : goal.invariant-loop-i

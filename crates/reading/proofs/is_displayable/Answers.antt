@@ -1,5 +1,4 @@
 -- `reading::is_displayable` meets its contract: each arm of the match is a case of the definition. Assumes nothing.
-use borrow.Author.Rules.{rules}
 use Rattle.exact.proofs.Z.{back32}
 use Rattle.reading.specs.Reading.{displayable}
 use Rattle.reading.proofs.is_displayable.Goals as goal

@@ -1,5 +1,4 @@
 -- `reading::point_in` meets its contract: both numbers are read back from their bits. Assumes nothing.
-use borrow.Author.Rules.{rules}
 use mir.Facts.{to_z-of_z}
 use Rattle.reading.proofs.point_in.Goals as goal
 

@@ -1,5 +1,4 @@
 -- `reading::points_in` meets its contract: the two walks, put together. Assumes nothing.
-use borrow.Author.Rules.{rules}
 use Rattle.reading.specs.Reading.{points_in}
 use Rattle.reading.proofs.points_in.Goals as goal
 

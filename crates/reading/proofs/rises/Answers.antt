@@ -1,7 +1,7 @@
 -- `reading::rises` meets its contract. The invariant: what is kept says of the inputs passed whether each is below the next. Assumes nothing.
 use native.Mathlib.Omega.{arith}
 use mathlib.Core.Path.{◌≡◌, refl, sym, ap, ◌∙◌}
-use Prim.Native.Nat.{◌≤◌, ◌+◌, ◌-◌}
+use Prim.Native.Nat.{◌+◌}
 use Rattle.exact.proofs.Z.{back32}
 use Rattle.reading.specs.Reading.{point, up_to, rises_at}
 use Rattle.reading.proofs.Walk.{walk_next}

@@ -1,9 +1,6 @@
-use native.Mathlib.Omega.{arith}
-use mathlib.Core.Path.{◌≡◌, refl, sym, ap, ◌∙◌}
-use Prim.Native.Nat.{◌≤◌, ◌+◌, ◌-◌}
-use Rattle.exact.proofs.Z.{back32}
-use Rattle.reading.specs.Reading.{point, up_to, rises_at}
-use Rattle.reading.proofs.Walk.{walk_next}
+use mathlib.Core.Path.{◌≡◌}
+use Prim.Native.Nat.{◌≤◌, ◌-◌}
+use Rattle.reading.specs.Reading.{up_to, rises_at}
 use Rattle.reading.proofs.rises.Given as goal
 
 abbrev pub invariant-loop-i : goal.invariant-loop-i

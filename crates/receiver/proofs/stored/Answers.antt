@@ -1,5 +1,4 @@
 -- `receiver::stored` meets its contract: the branch says which case of `store` holds. Assumes nothing.
-use borrow.Author.Rules.{rules}
 use native.Mathlib.Omega.{arith}
 use borrow.Author.Tests.{lt-ltb, le-ltb}
 use Rattle.receiver.specs.Receiver.{limit, store}

@@ -1,5 +1,4 @@
 -- `register::index_of` meets its contract: an arm of a range is two tests. Assumes nothing.
-use borrow.Author.Rules.{rules}
 use native.Mathlib.Omega.{arith}
 use mathlib.Core.Path.{sym, ◌∙◌}
 use mathlib.Core.Logic.{inl, inr}

@@ -1,5 +1,4 @@
 -- `run::counted` meets its contract: the tests that led to a return say which case of the definition holds. Assumes nothing.
-use borrow.Author.Rules.{rules}
 use borrow.Author.Tests.{lt-ltb, le-ltb}
 use native.Mathlib.Omega.{arith}
 use Prim.Native.Nat.{◌+◌}

@@ -1,5 +1,4 @@
 -- `total::batch_adds` meets its contract: a number of 32 bits times the unit fits. Assumes nothing.
-use borrow.Author.Rules.{rules}
 use native.Mathlib.Omega.{arith}
 use mathlib.Core.Path.{◌≡◌, refl, ap₂, ◌∙◌}
 use Prim.Native.Nat.{◌^◌, ◌≤◌}

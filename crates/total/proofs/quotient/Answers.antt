@@ -1,5 +1,4 @@
 -- `total::quotient` meets its contract: the unit is a divisor above zero. Assumes nothing.
-use borrow.Author.Rules.{rules}
 use mathlib.Core.Path.{◌≡◌, ◌∙◌}
 use lib.IntN.{pos}
 use mir.Syntax.{w64}

@@ -1,5 +1,4 @@
 -- `total::sampled` meets its contract: what is added is small enough for `added`. Assumes nothing.
-use borrow.Author.Rules.{rules}
 use mathlib.Core.Path.{◌≡◌, ap, ◌∙◌}
 use mir.Syntax.{w64}
 use mir.Val.{to_z, of_z}

@@ -1,5 +1,4 @@
 -- `total::summed` meets its contract: the two tests of the one quotient pick the case. Assumes nothing.
-use borrow.Author.Rules.{rules}
 use mathlib.Core.Path.{◌≡◌, ap, ◌∙◌}
 use mathlib.Core.Bool.{false}
 use lib.Signed.{lt_z}
