@@ -4,19 +4,12 @@ use mathlib.Core.Path.{◌≡◌}
 use mir.Syntax.{w32}
 use mir.Val.{SFits, to_z, of_z}
 use Rattle.exact.proofs.Z.{eq32}
-use Rattle.effect.proofs.can_work.Statement.{statement}
-use Rattle.effect.proofs.can_work.Tie as tie
+use Rattle.effect.proofs.can_work.Goals as goal
 
-is-within-requires : tie.Need-is-within-requires
-is-within-requires c κs = search rules
-
-returns : tie.Need-returns
+pub returns : goal.returns
 returns c =
-    let w = c.before.before.before.before.before.before.args.working in
+    let w = c.args.working in
     let b : to_z w32 (of_z w32 w.totalizer.time_base) ≡ w.totalizer.time_base = search rules in
     let lf : SFits w32 w.analog.low = search rules in
     let hf : SFits w32 w.analog.high = search rules in
-    rw (c.before.before.is_within.ensures, b, eq32 w.analog.low w.analog.high lf hf)
-
-pub can_work_spec : {M : Type 1} → statement M
-can_work_spec = tie.close (tie.spec is-within-requires returns)
+    rw (c.is_within.ensures, b, eq32 w.analog.low w.analog.high lf hf)
