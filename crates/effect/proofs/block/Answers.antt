@@ -1,0 +1,7 @@
+-- `effect::block` meets its contract: the reply is written, and what became of it says the rest. Assumes nothing.
+use borrow.Author.Rules.{rules}
+use mathlib.Core.Path.{◌∙◌}
+use Rattle.effect.proofs.block.Goals as goal
+
+pub returns : goal.returns
+returns c = let e = c.print-written.ensures in record { value = c.by_room.ensures ∙ rw e.value; buffer_after = e.buffer_after }
