@@ -7,7 +7,6 @@ use lib.ListN.{get_or}
 use Rattle.text.proofs.Laws.{rest}
 use Rattle.record.specs.Record.{words, short_said}
 use Rattle.record.proofs.Said.{too_short, no_space, letter_is}
-use borrow.Author.Rules.{rules}
 use Rattle.record.proofs.brief.Goals as goal
 
 pub returns-then-s-lt3 : goal.returns-then-s-lt3

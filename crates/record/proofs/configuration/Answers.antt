@@ -3,16 +3,15 @@
 use mathlib.Core.Path.{◌≡◌, sym, subst, ap, ◌∙◌}
 use mathlib.Core.Bool.{false}
 use mathlib.Core.List.{List}
-use Prim.Native.Nat.{ℕ, ◌+◌, ◌≤◌, ◌-◌}
+use Prim.Native.Nat.{ℕ, ◌+◌, ◌-◌}
 use lib.IntN.{ℤ}
 use mir.Syntax.{w32}
 use mir.Val.{to_z, of_z}
-use lib.ListN.{length, take, drop, get_or, set}
-use Rattle.exact.proofs.Z.{back32}
+use lib.ListN.{take, drop, get_or, set}
 use Rattle.text.specs.Line.{before as up_to}
 use Rattle.text.specs.Word.{word_end}
 use Rattle.text.specs.declared.Number.{Number}
-use Rattle.record.specs.Record.{word_count, kinds, setting_of}
+use Rattle.record.specs.Record.{kinds, setting_of}
 use Rattle.record.proofs.Words.{word_is}
 use Rattle.record.proofs.Turns.{with_sensor, Reading, starts, all_read, no_setting, last_setting, next_setting}
 use borrow.Author.Rules.{rules}
@@ -53,7 +52,7 @@ loop-i-preserved c =
       omega arith,
       omega arith,
       subst (λ (z : ℤ). Reading c.args.s.now c.args.settings.now (set c.loop-i.settings c.loop-i.i z) (c.word_end-e.result + 1) (c.loop-i.i + 1)) (sym e)
-      (next_setting c.args.s.now _ c.loop-i.settings c.loop-i.at c.loop-i.i c.loop-i.invariant.2 (omega arith) _ w c.in-Is.v x (omega arith)),
+          (next_setting c.args.s.now _ c.loop-i.settings c.loop-i.at c.loop-i.i c.loop-i.invariant.2 (omega arith) _ w c.in-Is.v x (omega arith)),
     )
 
 pub returns : goal.returns

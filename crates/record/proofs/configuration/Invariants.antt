@@ -1,16 +1,7 @@
-use mathlib.Core.Path.{◌≡◌, sym, subst, ap, ◌∙◌}
-use mathlib.Core.Bool.{false}
-use mathlib.Core.List.{List}
-use Prim.Native.Nat.{ℕ, ◌+◌, ◌≤◌, ◌-◌}
-use lib.IntN.{ℤ}
-use lib.ListN.{length, drop, get_or, set}
-use Rattle.exact.proofs.Z.{back32}
-use Rattle.text.specs.Line.{before as up_to}
-use Rattle.record.specs.Record.{word_count, kinds, setting_of}
-use Rattle.record.proofs.Words.{word_is}
-use Rattle.record.proofs.Turns.{with_sensor, Reading, starts, all_read, no_setting, last_setting, next_setting}
-use borrow.Author.Rules.{rules}
-use native.Mathlib.Omega.{arith}
+use Prim.Native.Nat.{◌≤◌, ◌-◌}
+use lib.ListN.{length}
+use Rattle.record.specs.Record.{word_count}
+use Rattle.record.proofs.Turns.{Reading}
 use Rattle.record.proofs.configuration.Given as goal
 
 abbrev pub invariant-loop-i : goal.invariant-loop-i

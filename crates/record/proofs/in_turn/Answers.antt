@@ -1,10 +1,10 @@
 -- `record::in_turn` meets its contract: so many are read as there were turns. Assumes nothing.
 use native.Mathlib.Omega.{arith}
-use mathlib.Core.Path.{◌≡◌, refl, sym, ap, ◌∙◌}
-use Prim.Native.Nat.{ℕ, ◌-◌, ◌≤◌}
-use lib.ListN.{length, take, length-set}
+use mathlib.Core.Path.{refl, sym, ap, ◌∙◌}
+use Prim.Native.Nat.{ℕ}
+use lib.ListN.{length-set}
 use lib.Seq.{take_all}
-use Rattle.exact.proofs.Z.{back32}
+use borrow.Author.Rules.{rules}
 use Rattle.record.specs.Configuration.{in_turn}
 use Rattle.record.proofs.Settings.{turn_on}
 use Rattle.record.proofs.in_turn.Goals as goal
@@ -19,7 +19,7 @@ loop-i-preserved c =
     let l = c.loop-i in (
       omega arith,
       simp length-set l.invariant.1,
-      turn_on a.s.now l.points a.at l.i _ (omega arith) (back32 _ c.points-1.given) l.invariant.2,
+      turn_on a.s.now l.points a.at l.i _ (omega arith) (search rules) l.invariant.2,
     )
 
 pub returns : goal.returns

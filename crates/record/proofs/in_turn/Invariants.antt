@@ -1,11 +1,7 @@
-use native.Mathlib.Omega.{arith}
-use mathlib.Core.Path.{◌≡◌, refl, sym, ap, ◌∙◌}
-use Prim.Native.Nat.{ℕ, ◌-◌, ◌≤◌}
-use lib.ListN.{length, take, length-set}
-use lib.Seq.{take_all}
-use Rattle.exact.proofs.Z.{back32}
+use mathlib.Core.Path.{◌≡◌}
+use Prim.Native.Nat.{◌-◌, ◌≤◌}
+use lib.ListN.{length, take}
 use Rattle.record.specs.Configuration.{in_turn}
-use Rattle.record.proofs.Settings.{turn_on}
 use Rattle.record.proofs.in_turn.Given as goal
 
 abbrev pub invariant-loop-i : goal.invariant-loop-i

@@ -6,7 +6,6 @@ use Prim.Native.Nat.{ℕ}
 use Rattle.text.proofs.Laws.{part}
 use Rattle.record.specs.Record.{event_of, read_of, stored}
 use Rattle.record.proofs.Said.{too_long, line_is, untouched}
-use borrow.Author.Rules.{rules}
 use Rattle.record.proofs.judge.Goals as goal
 
 pub returns-then-s-len : goal.returns-then-s-len

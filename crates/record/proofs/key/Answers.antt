@@ -7,7 +7,6 @@ use Rattle.text.proofs.Laws.{rest}
 use Rattle.record.specs.Record.{key_of, place_of}
 use Rattle.record.proofs.Words.{word_is, behind, spaced, unspaced}
 use Rattle.record.proofs.Said.{key_is, key_none}
-use borrow.Author.Rules.{rules}
 use Rattle.record.proofs.key.Goals as goal
 
 pub returns-then-e-s : goal.returns-then-e-s

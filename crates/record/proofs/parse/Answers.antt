@@ -5,7 +5,6 @@ use Prim.Native.Nat.{ℕ}
 use Rattle.text.proofs.Laws.{rest}
 use Rattle.record.specs.Record.{words, configuration_read, configuration_said, stored}
 use Rattle.record.proofs.Said.{short_is, none_read, configuration_is, settings_are, no_cfg, untouched}
-use borrow.Author.Rules.{rules}
 use Rattle.record.proofs.parse.Goals as goal
 
 pub returns-then-s-lt4 : goal.returns-then-s-lt4

@@ -1,6 +1,7 @@
 -- `record::sample` meets its contract: what has a space in it is no number, so all that is left can be read as one word. Assumes nothing.
-use mathlib.Core.Path.{sym, ap, ◌∙◌}
-use Rattle.exact.proofs.Z.{back32}
+use mathlib.Core.Path.{◌≡◌, sym, ap, ◌∙◌}
+use mir.Syntax.{w32}
+use mir.Val.{to_z, of_z}
 use Rattle.record.specs.Record.{sample_of}
 use Rattle.record.specs.declared.Event.TheVariants.{Sample}
 use Rattle.record.proofs.Said.{sample_is}
@@ -9,8 +10,8 @@ use Rattle.record.proofs.sample.Goals as goal
 
 pub returns-in-Is : goal.returns-in-Is
 returns-in-Is c =
-    ap Sample (back32 c.in-Is.v c.in-Is.known_told-1-own.given.0.1)
-    ∙ ap sample_of (sym c.in-Is.is ∙ c.read_number-n.ensures) ∙ sample_is c.args.s.now
+    let e : to_z w32 (of_z w32 c.in-Is.v) ≡ c.in-Is.v = search rules in
+    ap Sample e ∙ ap sample_of (sym c.in-Is.is ∙ c.read_number-n.ensures) ∙ sample_is c.args.s.now
 
 pub returns-in-Not : goal.returns-in-Not
 returns-in-Not c =

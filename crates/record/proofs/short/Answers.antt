@@ -1,7 +1,7 @@
 -- `record::short` meets its contract: the arm says which letter it is. Assumes nothing.
+use native.Mathlib.Omega.{arith}
 use Rattle.record.specs.Record.{same, short_said}
 use Rattle.record.proofs.Said.{other_letter}
-use borrow.Author.Rules.{rules}
 use Rattle.record.proofs.short.Goals as goal
 
 pub returns-in-83 : goal.returns-in-83
@@ -17,4 +17,4 @@ unfolding short_said same
 returns-in-66 c = rw c.in-66.is c.byte.ensures
 
 pub returns-in_default : goal.returns-in_default
-returns-in_default c = other_letter _ _ c.in_default.in_default-own.rest.0.0.1 c.in_default.in_default-own.rest.0.1 c.in_default.in_default-own.rest.1
+returns-in_default c = other_letter c.args.k _ (λ e. omega arith) (λ e. omega arith) (λ e. omega arith)
