@@ -9,8 +9,7 @@ use borrow.Author.Tests.{le-leb, lt-leb}
 use Rattle.command.specs.Parse.{status}
 use Rattle.command.specs.declared.Asked.TheVariants.{BadForm}
 use Rattle.numeral.proofs.Lists.{one}
-use Rattle.command.proofs.status.Statement.{statement}
-use Rattle.command.proofs.status.Tie as tie
+use Rattle.command.proofs.status.Goals as goal
 
 other : (s : List ℕ) → (length s ≡ 1 → ⊥) → status s ≡ BadForm
 unfolding status
@@ -18,23 +17,17 @@ other [] h = refl
 other (b ∷ []) h = absurd (h refl)
 other (b ∷ c ∷ s) h = refl
 
-returns : tie.Need-returns
-returns c = sym (other c.before.args.s.now (λ e. omega arith))
+pub returns-then-s-ne1 : goal.returns-then-s-ne1
+returns-then-s-ne1 c = sym (other c.args.s.now (λ e. omega arith))
 
-shared-slice-read-b : tie.Need-shared-slice-read-b
-shared-slice-read-b c = search rules
-
-returns-2 : tie.Need-returns-2
+pub returns-in-0-to-127 : goal.returns-in-0-to-127
 unfolding status
-returns-2 c =
-    let s = c.before.before.before.args.s.now in
+returns-in-0-to-127 c =
+    let s = c.args.s.now in
     sym (ap status (one s (omega arith)) ∙ rw (le-leb (get_or s 0 0) 127 (omega arith)))
 
-returns-3 : tie.Need-returns-3
+pub returns-in_default : goal.returns-in_default
 unfolding status
-returns-3 c =
-    let s = c.before.before.before.args.s.now in
+returns-in_default c =
+    let s = c.args.s.now in
     sym (ap status (one s (omega arith)) ∙ rw (lt-leb (get_or s 0 0) 127 (omega arith)))
-
-pub status_spec : {M : Type 1} → statement M
-status_spec = tie.close (tie.spec returns shared-slice-read-b returns-2 returns-3)
