@@ -4,18 +4,11 @@ use mathlib.Core.Path.{◌≡◌}
 use mir.Syntax.{w32}
 use mir.Val.{to_z, of_z}
 use Rattle.outputs.specs.Outputs.{sound}
-use Rattle.outputs.proofs.is_sound.Statement.{statement}
-use Rattle.outputs.proofs.is_sound.Tie as tie
+use Rattle.outputs.proofs.is_sound.Goals as goal
 
-in-code-requires : tie.Need-in-code-requires
-in-code-requires c κs = search rules
-
-returns : tie.Need-returns
+pub returns : goal.returns
 unfolding sound
 returns c =
-    let o = c.before.before.args.o in
+    let o = c.args.o in
     let code : to_z w32 (of_z w32 o.code) ≡ o.code = search rules in
     rw (c.in_code.ensures, code)
-
-pub is_sound_spec : {M : Type 1} → statement M
-is_sound_spec = tie.close (tie.spec in-code-requires returns)

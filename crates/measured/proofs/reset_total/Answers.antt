@@ -1,0 +1,6 @@
+-- `measured::reset_total` meets its contract: the total is what the callee ensures, all else stands. Assumes nothing.
+use borrow.Author.Rules.{rules}
+use Rattle.measured.proofs.reset_total.Goals as goal
+
+pub returns : goal.returns
+returns c = cc
