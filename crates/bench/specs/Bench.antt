@@ -1,6 +1,6 @@
 -- What a line does to the meter and its reply buffer, and what is printed of it.
 use Rattle.std.specs.Prelude.{ℕ, true, List, [], ◌∷◌, ℤ, drop, get_or, replicate}
-use Rattle.core.specs.declared.rt.Stdout.{Stdout}
+use Rattle.std.specs.declared.io.Stdout.{Stdout}
 use Rattle.text.specs.Line.{Heard, bytes, long, all_lines, ran}
 use Rattle.text.specs.Output.{Waiting, waiting, puts}
 use Rattle.config.specs.Bench.{bench_meter}

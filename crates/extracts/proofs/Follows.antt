@@ -30,14 +30,14 @@ module _ (c : Config) where
   four (x ∷ ks) = (goes c (given c ks) (four ks) x).four
 
   -- the present reading is that of the last sample
-  present_is : (ks : List Entry) → (given c ks).decreases.reading ≡ present c ks
+  present_is : (ks : List Entry) → (given c ks).measured.reading ≡ present c ks
   present_is [] = refl
   present_is (measured x ∷ ks) = refl
   present_is (pressed n ∷ ks) = (goes c (given c ks) (four ks) (pressed n)).reading ∙ present_is ks
   present_is (told s ∷ ks) = (goes c (given c ks) (four ks) (told s)).reading ∙ present_is ks
 
   total_goes : (o : Option Entry) (ks : List Entry)
-      → (given c (add o ks)).decreases.total ≡ stepped (totals.step c.working.totalizer) (given c ks).decreases.total (through (to_total c (present c ks)) o)
+      → (given c (add o ks)).measured.total ≡ stepped (totals.step c.working.totalizer) (given c ks).measured.total (through (to_total c (present c ks)) o)
   total_goes none ks = refl
   total_goes (some x) ks = rw (← present_is ks) (goes c (given c ks) (four ks) x).total
 

@@ -46,8 +46,8 @@ use Rattle.extracts.specs.Events.{through, asks, asked_of_total, to_total, asked
 
 -- an instrument i has become j: the reading stands, and total and alarms have made the steps that are given
 record Steps (c : Config) (i : Instrument) (t : Option totals.Event) (a : ℕ → Option alarm.Event) (j : Instrument) : Type 0 where
-  reading : j.decreases.reading ≡ i.decreases.reading
-  total : j.decreases.total ≡ stepped (totals.step c.working.totalizer) i.decreases.total t
+  reading : j.measured.reading ≡ i.measured.reading
+  total : j.measured.total ≡ stepped (totals.step c.working.totalizer) i.measured.total t
   each : (k : ℕ) → k < 4 → alarm_at j.alarms k ≡ stepped (alarm.step (settings_at c.working.alarms k)) (alarm_at i.alarms k) (a k)
   four : length j.alarms ≡ 4
 
@@ -84,8 +84,8 @@ module _ (c : Config) (i : Instrument) (all : length i.alarms ≡ 4) where
       })
 
   -- RB, RC and RD leave the alarms
-  resets_measured : (r : ℕ) → r < at "E" → (j : Instrument) → j.alarms ≡ i.alarms → j.decreases.reading ≡ i.decreases.reading
-      → j.decreases.total ≡ stepped (totals.step c.working.totalizer) i.decreases.total (asked_of_total (Reset r)) → Steps c i (asked_of_total (Reset r)) (λ k. asked_of_alarm k (Reset r)) j
+  resets_measured : (r : ℕ) → r < at "E" → (j : Instrument) → j.alarms ≡ i.alarms → j.measured.reading ≡ i.measured.reading
+      → j.measured.total ≡ stepped (totals.step c.working.totalizer) i.measured.total (asked_of_total (Reset r)) → Steps c i (asked_of_total (Reset r)) (λ k. asked_of_alarm k (Reset r)) j
   resets_measured r h j a q t =
       record {
         reading = q;
@@ -123,7 +123,7 @@ module _ (c : Config) (i : Instrument) (all : length i.alarms ≡ 4) where
       })
 
   -- what leaves measurement and alarms, and is nothing to any of the four
-  leaves_all : (a : ℕ → Option alarm.Event) → ((k : ℕ) → k < 4 → a k ≡ none) → (j : Instrument) → j.decreases ≡ i.decreases → j.alarms ≡ i.alarms → Steps c i none a j
+  leaves_all : (a : ℕ → Option alarm.Event) → ((k : ℕ) → k < 4 → a k ≡ none) → (j : Instrument) → j.measured ≡ i.measured → j.alarms ≡ i.alarms → Steps c i none a j
   leaves_all a n j m q =
       record {
         reading = ap (λ (x : Measured). x.reading) m;
@@ -193,10 +193,10 @@ module _ (c : Config) (i : Instrument) (all : length i.alarms ≡ 4) where
   reset_four : length (reset_alarms c.working i).alarms ≡ 4
   reset_four = ap (λ (j : Instrument). length j.alarms) (resets_each c.working i all) ∙ length-map i.alarms reset ∙ all
 
-  keys : (n : ℤ) → Steps c i (to_total c i.decreases.reading (pressed n)) (λ k. to_alarm c k (pressed n)) (leaves (effects.pressed c.talking c.working i n))
+  keys : (n : ℤ) → Steps c i (to_total c i.measured.reading (pressed n)) (λ k. to_alarm c k (pressed n)) (leaves (effects.pressed c.talking c.working i n))
   unfolding reset_register
   keys n =
-      let P : Effect → Type 0 = λ e. Steps c i (to_total c i.decreases.reading (pressed n)) (λ k. to_alarm c k (pressed n)) (leaves e) in
+      let P : Effect → Type 0 = λ e. Steps c i (to_total c i.measured.reading (pressed n)) (λ k. to_alarm c k (pressed n)) (leaves e) in
       chosen P (eq_z n (pos 1))
       (λ e. rw (eq_z_true n (pos 1) e) (batch_key c.working.totalizer.batch))
       (λ a. chosen P (eq_z n (pos 2)) (λ e. rw (eq_z_true n (pos 2) e) (record { reading = refl; total = refl; each = λ k h. refl; four = all }))
@@ -206,7 +206,7 @@ module _ (c : Config) (i : Instrument) (all : length i.alarms ≡ 4) where
       (λ d. chosen P (eq_z n (pos 6)) (λ e. rw (eq_z_true n (pos 6) e) untouched)
       (λ _. rw (a, b, d) untouched))))))
     where
-      batch_key : (t : Bool) → Steps c i (cond t (some (totals.batch_key i.decreases.reading)) none) (λ k. none) (leaves (stands (cond t (settled Done (batched c.working i)) (settled UnknownKey i))))
+      batch_key : (t : Bool) → Steps c i (cond t (some (totals.batch_key i.measured.reading)) none) (λ k. none) (leaves (stands (cond t (settled Done (batched c.working i)) (settled UnknownKey i))))
       batch_key true = record { reading = refl; total = refl; each = λ k h. refl; four = all }
       batch_key false = untouched
 
@@ -219,8 +219,8 @@ reading_by c now (pressed k) = now
 reading_by c now (told s) = now
 
 pub record Goes (c : Config) (i : Instrument) (x : Entry) : Type 0 where
-  pub reading : (carry c i x).decreases.reading ≡ reading_by c i.decreases.reading x
-  pub total : (carry c i x).decreases.total ≡ stepped (totals.step c.working.totalizer) i.decreases.total (to_total c i.decreases.reading x)
+  pub reading : (carry c i x).measured.reading ≡ reading_by c i.measured.reading x
+  pub total : (carry c i x).measured.total ≡ stepped (totals.step c.working.totalizer) i.measured.total (to_total c i.measured.reading x)
   pub each : (k : ℕ) → k < 4 → alarm_at (carry c i x).alarms k ≡ stepped (alarm.step (settings_at c.working.alarms k)) (alarm_at i.alarms k) (to_alarm c k x)
   pub four : length (carry c i x).alarms ≡ 4
 

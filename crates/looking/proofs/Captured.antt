@@ -42,9 +42,9 @@ use Rattle.looking.proofs.Looking.{looking}
 -- ---- what an effect leaves of reading, max and min: it resets the first where a is true, the second where b is
 
 record Left (i : Instrument) (a b : Bool) (j : Instrument) : Type 0 where
-  reading : j.decreases.reading ≡ i.decreases.reading
-  max : j.decreases.max ≡ cond a (reset i.decreases.reading) i.decreases.max
-  min : j.decreases.min ≡ cond b (reset i.decreases.reading) i.decreases.min
+  reading : j.measured.reading ≡ i.measured.reading
+  max : j.measured.max ≡ cond a (reset i.measured.reading) i.measured.max
+  min : j.measured.min ≡ cond b (reset i.measured.reading) i.measured.min
 
 module _ (t : Talking) (w : Working) (i : Instrument) where
   untouched : Left i false false i
@@ -111,13 +111,13 @@ held_more side capture true r h = refl
 held_more side capture false r h = refl
 
 record Holds (c : Config) (ks : List Entry) : Type 0 where
-  reading : (given c ks).decreases.reading ≡ present c ks
-  max : (given c ks).decreases.max ≡ held Max c.working.capture (to_max c ks)
-  min : (given c ks).decreases.min ≡ held Min c.working.capture (to_min c ks)
+  reading : (given c ks).measured.reading ≡ present c ks
+  max : (given c ks).measured.max ≡ held Max c.working.capture (to_max c ks)
+  min : (given c ks).measured.min ≡ held Min c.working.capture (to_min c ks)
 
 -- what leaves its reading, and max and min but for their resets
 after_left : (c : Config) (ks : List Entry) (a b : Bool) (j : Instrument) → Left (given c ks) a b j → Holds c ks
-    → (j.decreases.reading ≡ present c ks) × (j.decreases.max ≡ held Max c.working.capture (resetting a (present c ks) (to_max c ks))) × (j.decreases.min ≡ held Min c.working.capture (resetting b (present c ks) (to_min c ks)))
+    → (j.measured.reading ≡ present c ks) × (j.measured.max ≡ held Max c.working.capture (resetting a (present c ks) (to_max c ks))) × (j.measured.min ≡ held Min c.working.capture (resetting b (present c ks) (to_min c ks)))
 after_left c ks a b j l p = (
   l.reading ∙ p.reading,
   (rw (p.reading, p.max) at l.max) ∙ sym (held_more Max c.working.capture a (present c ks) (to_max c ks)),
@@ -140,8 +140,8 @@ captured c accepted h =
     let p = holds c (kept c h) in
     let is = (looking c accepted).holds h in
     record {
-      max = ap (λ (i : Instrument). i.decreases.max) is ∙ p.max;
-      min = ap (λ (i : Instrument). i.decreases.min) is ∙ p.min;
+      max = ap (λ (i : Instrument). i.measured.max) is ∙ p.max;
+      min = ap (λ (i : Instrument). i.measured.min) is ∙ p.min;
       max_takes = takes_closest Max c.working.capture (to_max c (kept c h));
       min_takes = takes_closest Min c.working.capture (to_min c (kept c h));
     }

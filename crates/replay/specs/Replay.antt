@@ -1,6 +1,6 @@
 -- What a line does to the meter and its buffer, and what is shown of it.
 use Rattle.std.specs.Prelude.{ℕ, true, List, [], ◌∷◌, ◌++◌, ℤ, length, replicate}
-use Rattle.core.specs.declared.rt.Stdout.{Stdout}
+use Rattle.std.specs.declared.io.Stdout.{Stdout}
 use Rattle.text.specs.Line.{Heard, all_lines, ran}
 use Rattle.text.specs.Output.{Waiting, waiting, puts}
 use Rattle.register.specs.Bytes.{ascii}

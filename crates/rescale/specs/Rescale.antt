@@ -2,7 +2,7 @@
 -- which is said by the configuration and knows no state of the program (`printed_of`). The first is the contract of the
 -- functions that read the stream, the second that of the program; proofs/Stream joins them.
 use Rattle.std.specs.Prelude.{ℕ, ◌≡◌, true, cond, List}
-use Rattle.core.specs.declared.rt.Stdout.{Stdout}
+use Rattle.std.specs.declared.io.Stdout.{Stdout}
 use Rattle.segments.specs.Segments.{no_segments}
 use Rattle.segments.specs.declared.Segments.{Segments}
 use Rattle.text.specs.Line.{Heard, all_lines, Stands, finished}
