@@ -4,6 +4,7 @@
 //
 // Standard input is read in blocks, and standard output written in blocks, so the memory is the same for any input.
 #![tactic(auto)]
+
 ghost use Rattle.std.specs.Prelude.{ℕ, ◌≤◌, ◌≡◌, List, length, take};
 ghost use Rattle.text.specs.Line.{heard, goes_on, Carried, Turned, Streamed, finished};
 ghost use Rattle.text.specs.Output.{waiting};
@@ -100,13 +101,7 @@ fn end(line: &[u8; KEPT], buf: &mut [u8], s: State) -> State
 
 // A proved loop has to end, and nothing says that the input does. So the loop counts its turns down from 2^64 - 1, a number that no
 // run uses up: at a turn each nanosecond it would take more than five hundred years.
-fn run(
-    input: Stdin,
-    block: &mut [u8],
-    line: &mut [u8; KEPT],
-    buf: &mut [u8],
-    s: State,
-) -> State
+fn run(input: Stdin, block: &mut [u8], line: &mut [u8; KEPT], buf: &mut [u8], s: State) -> State
     ensures { Streamed heard_by line.old s.len (standing s buf.old) (standing result buf.new) line.new result.len }
 {
     let mut t = Turn {

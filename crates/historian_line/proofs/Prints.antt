@@ -18,7 +18,6 @@ use Rattle.filed.proofs.Bytes.{kind_most}
 use Rattle.filed.proofs.Exact.{back}
 use Rattle.text.specs.Line.{before, after, has}
 use Rattle.text.specs.Number.{natural_of, number_of, digits, value, signed_of}
-use Rattle.text.specs.declared.Number.{Number}
 use Rattle.text.specs.declared.Number.TheVariants as number
 use Rattle.hexadecimal.specs.Hex.{hex, hex_byte, most}
 use Rattle.hexadecimal.specs.Meaning.{AreBytes}

@@ -1,5 +1,6 @@
 // The lines of the historian's program: what each asks, and what is printed of it.
 #![tactic(auto)]
+
 ghost use Rattle.std.specs.Prelude.{◌≡◌, true};
 ghost use Rattle.text.specs.Line.{heard};
 ghost use Rattle.text.specs.Output.{waiting, puts};

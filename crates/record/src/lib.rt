@@ -12,6 +12,7 @@
 // The format grows without breaking old files: a new setting comes as a further word at the end of `CFG`, where a line without it has
 // the value that leaves the meter as it was, and anything else comes as a line with a letter of its own.
 #![tactic(auto)]
+
 ghost use Rattle.std.specs.Prelude.{◌≡◌, false, cond, ◌||◌, [], ◌∷◌, ◌+◌, ◌≤◌, ◌<◌, eqb, pos, length, get_or, set};
 ghost use Rattle.text.specs.Line.{heard};
 ghost use Rattle.record.specs.Record.{word_count, sensor_at, words, key_of, byte_of, place_of, sample_said, key_said, byte_said, as_number, setting_of, kinds, configuration_said, configuration_read, short_said, short_by, event_of, read_of, stored, event_heard, read_heard};

@@ -5,6 +5,7 @@
 //
 // Standard input is read in blocks, and standard output written in blocks, so the memory is the same for any input.
 #![tactic(auto)]
+
 ghost use Rattle.std.specs.Prelude.{ℕ, ◌≤◌, ◌≡◌, false, List, length, take};
 ghost use Rattle.text.specs.Line.{heard, goes_on, Carried, Turned, Streamed};
 ghost use Rattle.text.specs.Output.{waiting};
@@ -208,7 +209,14 @@ fn run(
     };
     let mut turns = u64::MAX;
     while turns > 0 && t.more {
-        t = one_turn(input, &mut *block, &mut *line, &mut *settings, &mut *buf, t.state);
+        t = one_turn(
+            input,
+            &mut *block,
+            &mut *line,
+            &mut *settings,
+            &mut *buf,
+            t.state,
+        );
         turns -= 1;
     }
     t.state
@@ -237,7 +245,14 @@ fn rescaled(input: Stdin, to: Stdout, block: &mut [u8], buf: &mut [u8]) -> Out
 {
     let mut line = [0u8; KEPT];
     let mut settings = [0i32; WORDS];
-    let s = run(input, &mut *block, &mut line, &mut settings, &mut *buf, begun(to));
+    let s = run(
+        input,
+        &mut *block,
+        &mut line,
+        &mut settings,
+        &mut *buf,
+        begun(to),
+    );
     let e = end(&mut line, &mut settings, &mut *buf, s);
     e.out
 }

@@ -1,5 +1,6 @@
 // The lines of the program that rescales: what the first line makes of the program, what every later line is told, and what is printed.
 #![tactic(auto)]
+
 ghost use Rattle.std.specs.Prelude.{◌≡◌, true};
 ghost use Rattle.text.specs.Line.{heard};
 ghost use Rattle.text.specs.Output.{waiting, puts};
