@@ -8,7 +8,6 @@ use mathlib.Core.Path.{◌≡◌, sym, ◌∙◌}
 use lib.ListN.{drop}
 use mir.Syntax.{w32}
 use mir.Val.{to_z, of_z}
-use Rattle.exact.proofs.Z.{turned_true, turned_false}
 use Rattle.config.specs.Config.{node_rule, places_rule_by, step_rule, count_rule, points_rule, total_rule, low_cut_rule, alarms_rule, capture_rule, analog_rule, rules, first_broken, judged}
 use Rattle.config.specs.declared.Config.{Config}
 use Rattle.config.proofs.Verdicts.{passes, breaks}
