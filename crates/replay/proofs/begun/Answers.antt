@@ -8,29 +8,19 @@ use Rattle.config.specs.declared.Verdict.TheVariants.{Accepted, Broken}
 use Rattle.meter.specs.Meter.{not_started, by_verdict, powered_up}
 use Rattle.meter.specs.declared.Meter.{Meter}
 use Rattle.meter.specs.declared.Outcome.{Outcome}
+use Rattle.std.specs.declared.io.Stdout.{Stdout}
 use Rattle.replay.specs.declared.State.{State}
-use borrow.Author.Rules.{rules}
-use Rattle.replay.proofs.begun.Statement.{statement}
-use Rattle.replay.proofs.begun.Tie as tie
+use Rattle.replay.proofs.begun.Goals as goal
 
-nothing-requires : tie.Need-nothing-requires
-nothing-requires c κs = search rules
-
-power-up-requires : tie.Need-power-up-requires
-power-up-requires c κs = search rules
-
-abbrev starts : Meter → State
-starts m = record { meter = m; len = 0; out = record { at = 0; ok = true } }
+abbrev starts : Stdout → Meter → State
+starts to m = record { meter = m; len = 0; out = record { at = 0; ok = true; to = to } }
 
 -- a meter of nothing is the one that a refusal leaves, whatever the verdict
 whatever : (v : Verdict) → (by_verdict nothing v).meter ≡ not_started
 whatever Accepted = refl
 whatever (Broken rule) = refl
 
-returns : tie.Need-returns
+pub returns : goal.returns
 returns c =
-    ap (λ (o : Outcome). starts o.meter) (c.before.power_up.ensures ∙ ap powered_up c.before.before.nothing.ensures)
-    ∙ ap starts (whatever (judged nothing))
-
-pub begun_spec : {M : Type 1} → statement M
-begun_spec = tie.close (tie.spec nothing-requires power-up-requires returns)
+    ap (λ (o : Outcome). starts c.args.to o.meter) (c.power_up-o.ensures ∙ ap powered_up c.nothing.ensures)
+    ∙ ap (starts c.args.to) (whatever (judged nothing))
