@@ -13,13 +13,13 @@
 //     O times          as R, by that sensor
 #![tactic(auto)]
 
-ghost use Rattle.std.specs.Prelude.{◌<◌, ◌≤◌, length, IfOk};
+ghost use Rattle.std.specs.Prelude.{◌<◌, ◌≤◌, length};
 
 use alarm::Settings;
 use answer::Answer;
 use config::{Analog, Config, Scale, Source};
 use meter::{Meter, Outcome};
-use std::io::{self, Print, Read, Stdin, Stdout};
+use std::io::{Print, Read, Stdin, Stdout};
 use text::{KEPT, Natural, Number, Step};
 
 // ---- the meter
@@ -214,81 +214,73 @@ fn not_started() -> Meter {
 // ---- what is printed
 
 // The first n bytes of the buffer, of which there are as many.
-fn put_reply(to: Stdout, buffer: &[u8], n: usize) -> io::Result<()> {
+fn put_reply(to: Stdout, buffer: &[u8], n: usize) {
     if n <= buffer.len() {
-        to.write_all(&buffer[0..n])?;
+        let _ = to.write_all(&buffer[0..n]);
     }
-    Ok(())
 }
 
 // An answer's number and what it carries, and after a 2 the reply itself.
-fn put_answer(to: Stdout, a: Answer, buffer: &[u8]) -> io::Result<()> {
-    to.print(answer::number(a))?;
-    to.write_all(b" ")?;
-    to.print(answer::value(a))?;
-    to.write_all(b"\n")?;
+fn put_answer(to: Stdout, a: Answer, buffer: &[u8]) {
+    let _ = to.print(answer::number(a));
+    let _ = to.write_all(b" ");
+    let _ = to.print(answer::value(a));
+    let _ = to.write_all(b"\n");
     if let Answer::Replied(n) = a {
-        put_reply(to, buffer, n)?;
+        put_reply(to, buffer, n);
     }
-    Ok(())
 }
 
 // What the last event was answered, and the block that the meter then prints.
-fn put_outcome(to: Stdout, o: Outcome, buffer: &mut [u8]) -> io::Result<()> {
+fn put_outcome(to: Stdout, o: Outcome, buffer: &mut [u8]) {
     let answer = o.answer;
-    put_answer(to, answer, &*buffer)?;
+    put_answer(to, answer, &*buffer);
     let p = o.meter.key(6, &mut *buffer, 0);
     let printed = p.answer;
-    put_answer(to, printed, &*buffer)
+    put_answer(to, printed, &*buffer);
 }
 
 // A reading of these inputs, of which none lies below zero.
-fn put_reading(to: Stdout, n: i32) -> io::Result<()> {
+fn put_reading(to: Stdout, n: i32) {
     if n < 0 {
-        to.write_all(b" -")
+        let _ = to.write_all(b" -");
     } else {
-        to.write_all(b" ")?;
-        to.print(n as u64)
+        let _ = to.write_all(b" ");
+        let _ = to.print(n as u64);
     }
 }
 
 // What reading in bulk was answered, and a round of the readings.
-fn put_readings(to: Stdout, a: Answer, readings: &[i32; ROUNDS]) -> io::Result<()> {
-    to.print(answer::number(a))?;
+fn put_readings(to: Stdout, a: Answer, readings: &[i32; ROUNDS]) {
+    let _ = to.print(answer::number(a));
     let mut i = 0;
     while i < 16 {
-        put_reading(to, readings[i])?;
+        put_reading(to, readings[i]);
         i += 1;
     }
-    to.write_all(b"\n")
+    let _ = to.write_all(b"\n");
 }
 
-fn put_unknown(to: Stdout) -> io::Result<()> {
-    to.write_all(b"?\n")
+fn put_unknown(to: Stdout) {
+    let _ = to.write_all(b"?\n");
 }
 
 // ---- the lines
 
 // S, N and K, which have a number.
-fn numbered(to: Stdout, letter: u8, times: u64, number: i32, buffer: &mut [u8]) -> io::Result<()> {
+fn numbered(to: Stdout, letter: u8, times: u64, number: i32, buffer: &mut [u8]) {
     match letter {
         b'S' => put_outcome(to, samples(started(), number, times), buffer),
         b'N' => put_outcome(to, samples(not_started(), number, times), buffer),
         b'K' => {
             let o = keys(started(), number, &mut *buffer, times);
-            put_outcome(to, o, &mut *buffer)
+            put_outcome(to, o, &mut *buffer);
         }
         _ => put_unknown(to),
     }
 }
 
-fn with_number(
-    to: Stdout,
-    letter: u8,
-    times: u64,
-    number: Number,
-    buffer: &mut [u8],
-) -> io::Result<()> {
+fn with_number(to: Stdout, letter: u8, times: u64, number: Number, buffer: &mut [u8]) {
     match number {
         Number::Is(v) => numbered(to, letter, times, v, buffer),
         Number::Not => put_unknown(to),
@@ -296,24 +288,25 @@ fn with_number(
 }
 
 // B, which has at least one byte.
-fn with_bytes(to: Stdout, times: u64, list: &[u8], buffer: &mut [u8]) -> io::Result<()> {
+fn with_bytes(to: Stdout, times: u64, list: &[u8], buffer: &mut [u8]) {
     if list.len() < 1 {
-        return put_unknown(to);
+        put_unknown(to);
+        return;
     }
     let o = bytes(started(), list, &mut *buffer, times);
-    put_outcome(to, o, &mut *buffer)
+    put_outcome(to, o, &mut *buffer);
 }
 
 // R and O, whose readings are in no meter.
-fn in_bulk(to: Stdout, m: Meter, round: &[i32; 16], times: u64) -> io::Result<()> {
+fn in_bulk(to: Stdout, m: Meter, round: &[i32; 16], times: u64) {
     let inputs = by_turns(round);
     let mut readings = [0; ROUNDS];
     let a = bulk_readings(m, &inputs, &mut readings, times);
-    put_readings(to, a, &readings)
+    put_readings(to, a, &readings);
 }
 
 // The events of a letter, with what stands behind their number.
-fn events(to: Stdout, letter: u8, times: u64, rest: &[u8]) -> io::Result<()> {
+fn events(to: Stdout, letter: u8, times: u64, rest: &[u8]) {
     let mut buffer = [0u8; 163];
     match letter {
         b'M' => put_outcome(to, mixed_samples(started(), &INPUTS, times), &mut buffer),
@@ -329,7 +322,7 @@ fn events(to: Stdout, letter: u8, times: u64, rest: &[u8]) -> io::Result<()> {
     }
 }
 
-fn counted(to: Stdout, letter: u8, times: Natural, rest: &[u8]) -> io::Result<()> {
+fn counted(to: Stdout, letter: u8, times: Natural, rest: &[u8]) {
     match times {
         Natural::Is(n) => events(to, letter, n, rest),
         Natural::Not => put_unknown(to),
@@ -337,61 +330,60 @@ fn counted(to: Stdout, letter: u8, times: Natural, rest: &[u8]) -> io::Result<()
 }
 
 // A line, as its bytes without the LF.
-fn carried_out(to: Stdout, s: &[u8]) -> io::Result<()> {
+fn carried_out(to: Stdout, s: &[u8]) {
     if s.len() < 3 {
-        return put_unknown(to);
+        put_unknown(to);
+        return;
     }
     let end = text::word_end(s, 2);
     let times = text::read_natural(19, &s[2..end]);
     if end < s.len() {
         let next = end + 1;
-        counted(to, s[0], times, &s[next..])
+        counted(to, s[0], times, &s[next..]);
     } else {
-        counted(to, s[0], times, &s[end..])
+        counted(to, s[0], times, &s[end..]);
     }
 }
 
 // The line of an array and a count, where it has ended there.
-fn stepped(to: Stdout, line: &[u8; KEPT], f: Step) -> io::Result<()> {
+fn stepped(to: Stdout, line: &[u8; KEPT], f: Step) {
     let len = f.len;
     if f.ended {
         if len <= KEPT {
             let s: &[u8] = line;
-            carried_out(to, &s[..len])?;
+            carried_out(to, &s[..len]);
         }
     }
-    Ok(())
 }
 
 // The lines of a block.
-fn lines(to: Stdout, block: &[u8], line: &mut [u8; KEPT]) -> io::Result<()> {
+fn lines(to: Stdout, block: &[u8], line: &mut [u8; KEPT]) {
     let mut at = 0;
     while at < block.len() {
         let f = text::feed(&mut *line, 0, &block[at..]);
         at += f.used;
-        stepped(to, &*line, f)?;
+        stepped(to, &*line, f);
     }
-    Ok(())
 }
 
 // Reads on until the block is full or the input ends. Answers how many bytes came.
-fn filled(mut input: Stdin, block: &mut [u8]) -> io::Result<usize>
-    ensures { IfOk result (λ n. n ≤ length block.new) }
+fn filled(mut input: Stdin, block: &mut [u8]) -> usize
+    ensures { result ≤ length block.new }
 {
     let mut n = 0;
     while n < block.len() {
-        let came = input.read(&mut block[n..])?;
+        let came = input.read(&mut block[n..]).unwrap_or(0);
         if came == 0 {
             break;
         }
         n += came;
     }
-    Ok(n)
+    n
 }
 
-fn main(rt: HostRuntime) -> io::Result<()> {
+fn main(rt: HostRuntime) {
     let mut block = [0u8; 4096];
     let mut line = [0u8; KEPT];
-    let n = filled(rt.stdin(), &mut block)?;
-    lines(rt.stdout(), &block[0..n], &mut line)
+    let n = filled(rt.stdin(), &mut block);
+    lines(rt.stdout(), &block[0..n], &mut line);
 }
