@@ -1,5 +1,4 @@
 -- `excursion::sampled` meets its contract: the sample stands behind the history, and the polls behind it. Assumes nothing.
-use borrow.Author.Rules.{rules}
 use mathlib.Core.Path.{◌≡◌, ap, ◌∙◌}
 use mathlib.Core.List.{◌∷◌}
 use lib.IntN.{ℤ}
@@ -9,25 +8,15 @@ use Rattle.meter.specs.declared.Meter.{Meter}
 use Rattle.meter.specs.declared.Outcome.{Outcome}
 use Rattle.looking.specs.History.{History, sample, meter_after}
 use Rattle.looking.specs.Polls.{bench}
-use Rattle.excursion.proofs.sampled.Statement.{statement}
-use Rattle.excursion.proofs.sampled.Tie as tie
+use Rattle.excursion.proofs.sampled.Goals as goal
 
 -- what the public call gives back is what the history with the sample leaves
 behind : (h : History) (m : Meter) (x : ℤ) (o : Outcome) → o ≡ meters.sampled m x → m ≡ meter_after bench h → o.meter ≡ meter_after bench (sample x ∷ h)
 behind h m x o p e = ap (λ (q : Outcome). q.meter) p ∙ ap (λ (n : Meter). (meters.sampled n x).meter) e
 
-sample-requires : tie.Need-sample-requires
-sample-requires c κs = search rules
-
-polled-often-requires : tie.Need-polled-often-requires
-polled-often-requires c κs = search rules
-
-returns : tie.Need-returns
+pub returns : goal.returns
 returns c =
-    let s = c.before.before in
+    let s = c in
     let x = s.args.input in
-    let p = rw (to_z-of_z s.ranges.input) at c.before.sample.ensures in
-    λ h e. c.polled-often.ensures (sample x ∷ h) (behind h s.args.m x c.before.sample.result p e)
-
-pub sampled_spec : {M : Type 1} → statement M
-sampled_spec = tie.close (tie.spec sample-requires polled-often-requires returns)
+    let p = rw (to_z-of_z s.ranges.input) at c.sample-o.ensures in
+    λ h e. c.polled_often.ensures (sample x ∷ h) (behind h s.args.m x c.sample-o.result p e)
