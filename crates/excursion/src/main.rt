@@ -17,7 +17,7 @@ use alarm::{Alarm, Settings};
 use config::Config;
 use meter::Meter;
 use reading::Reading;
-use std::io::{self, Print, Stdout};
+use std::io::{Print, Stdout};
 
 // ---- the meter
 
@@ -218,19 +218,19 @@ fn old_row(times: usize) -> [u8; 7]
     ]
 }
 
-fn put_line(to: Stdout, times: usize) -> io::Result<()> {
-    to.write_all(&row(times))?;
-    to.write_all(b"    ")?;
-    to.write_all(&old_row(times))?;
-    to.write_all(b"    ")?;
-    to.print(times as u64)?;
-    to.write_all(b"\n")
+fn put_line(to: Stdout, times: usize) {
+    let _ = to.write_all(&row(times));
+    let _ = to.write_all(b"    ");
+    let _ = to.write_all(&old_row(times));
+    let _ = to.write_all(b"    ");
+    let _ = to.print(times as u64);
+    let _ = to.write_all(b"\n");
 }
 
-fn main(rt: HostRuntime) -> io::Result<()> {
+fn main(rt: HostRuntime) {
     let to = rt.stdout();
-    to.write_all(b"this core  old core   polls behind each sample\n")?;
-    put_line(to, 0)?;
-    put_line(to, 10)?;
-    put_line(to, 1000)
+    let _ = to.write_all(b"this core  old core   polls behind each sample\n");
+    put_line(to, 0);
+    put_line(to, 10);
+    put_line(to, 1000);
 }
