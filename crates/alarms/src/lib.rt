@@ -1,5 +1,6 @@
 // The four alarms: what a sample, V, R and VJ make of them, and what is shown of them.
 #![tactic(auto)]
+
 ghost use Rattle.std.specs.Prelude.{◌≡◌, cond, ◌≤◌, ◌<◌, ◌/◌, ◌%◌, eqb};
 ghost use Rattle.alarm.specs.Alarm.{reset};
 ghost use Rattle.alarms.specs.Alarms.{powered_up, all_sampled, reset_at, all_reset, written_at, reset_by_bits, setpoints, on_bits, sound};

@@ -3,6 +3,7 @@
 //
 // Standard input is read in blocks, and standard output written in blocks, so the memory is the same for any input.
 #![tactic(auto)]
+
 ghost use Rattle.std.specs.Prelude.{ℕ, ◌≤◌, ◌<◌, ◌≡◌, List, length, drop, take};
 ghost use Rattle.text.specs.Line.{heard, goes_on, Carried, Turned, Streamed, finished};
 ghost use Rattle.text.specs.Output.{waiting};
@@ -209,7 +210,14 @@ fn run(
     };
     let mut turns = u64::MAX;
     while turns > 0 && t.more {
-        t = one_turn(input, &mut *block, &mut *line, &mut *reply, &mut *buf, t.state);
+        t = one_turn(
+            input,
+            &mut *block,
+            &mut *line,
+            &mut *reply,
+            &mut *buf,
+            t.state,
+        );
         turns -= 1;
     }
     t.state
@@ -238,7 +246,14 @@ fn played(input: Stdin, to: Stdout, block: &mut [u8], buf: &mut [u8]) -> Out
 {
     let mut line = [0u8; KEPT];
     let mut reply = [0u8; 163];
-    let s = run(input, &mut *block, &mut line, &mut reply, &mut *buf, begun(to));
+    let s = run(
+        input,
+        &mut *block,
+        &mut line,
+        &mut reply,
+        &mut *buf,
+        begun(to),
+    );
     let e = end(&line, &mut reply, &mut *buf, s);
     e.out
 }

@@ -1,5 +1,6 @@
 // Block prints, written into the buffer that the caller lends.
 #![tactic(auto)]
+
 ghost use Rattle.std.specs.Prelude.{◌≡◌, cond, ◌+◌, ◌≤◌, length, take, drop};
 ghost use Rattle.line.specs.Buffer.{over, laid, after, answer};
 ghost use Rattle.line.specs.Line.{line, line_length, Writable};

@@ -1,5 +1,6 @@
 // Many inputs read at once by a scale, with no meter: what rescaling of records asks for.
 #![tactic(auto)]
+
 ghost use Rattle.std.specs.Prelude.{◌≡◌};
 ghost use Rattle.bulk.specs.Bulk.{number_of, answered, left};
 

@@ -1,6 +1,7 @@
 // Reply lines as a collector reads them. What is said of it stands in specs/; the functions stand in `collecting`, so that a claim is
 // checked without them.
 #![tactic(auto)]
+
 use reading::Reading;
 
 // Which reply is expected: a full line, an abbreviated one, or a block of full lines.

@@ -1,6 +1,7 @@
 // The register strings: what a string asks, and of which node.
 // Which registers there are, which command takes which and within which limits is said by crate `register` alone.
 #![tactic(auto)]
+
 ghost use Rattle.std.specs.Prelude.{◌≡◌, ◌<◌, ◌≤◌, take};
 ghost use Rattle.numeral.specs.Number.{number};
 ghost use Rattle.command.specs.Parse.{sole, reading, resetting, printing, status, write_to, data_of, writing, body, second_digit, first_digit, parse};

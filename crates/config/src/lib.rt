@@ -1,5 +1,6 @@
 // The configuration as it is given, whatever its numbers, and the ten rules that it is judged by.
 #![tactic(auto)]
+
 ghost use Rattle.std.specs.Prelude.{◌≡◌, true};
 ghost use Rattle.alarm.specs.Alarm.{no_settings};
 ghost use Rattle.config.specs.Config.{places_rule, input_places, places_rule_by, point_count, count_rule, points_rule, total_rule, alarm_rule, alarms_rule, analog_rule, judged};

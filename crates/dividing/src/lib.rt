@@ -1,5 +1,6 @@
 // A display as a binary32, and whether a pattern is any display's. What is said of it stands in `binary32`.
 #![tactic(auto)]
+
 ghost use Rattle.std.specs.Prelude.{◌≡◌, true, ◌&&◌, ◌≤◌, eqb};
 ghost use Rattle.reading.specs.Reading.{in_display};
 ghost use Rattle.binary32.specs.Binary32.{value, bits, gives, field, display_of};

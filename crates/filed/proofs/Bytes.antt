@@ -15,7 +15,7 @@ use Rattle.binary32.specs.Binary32.{bits}
 use Rattle.binary32.proofs.Told.{told}
 use Rattle.binary32.proofs.Gives.{given_gives}
 use Rattle.filed.specs.Filed.{datum_of, kind_of, bits_of, low_first, fitting, datum_at}
-use Rattle.filed.specs.declared.Datum.TheVariants.{Value, Over, Under, Nothing}
+use Rattle.filed.specs.declared.Datum.TheVariants.{Value}
 
 -- ---- eight bytes
 

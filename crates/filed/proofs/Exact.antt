@@ -21,7 +21,6 @@ use Rattle.binary32.proofs.Gives.{gives_is}
 use Rattle.binary32.proofs.Judge.{zero_given}
 use Rattle.filed.specs.Filed.{datum_of, kind_of, bits_of, low_first, record_of, bits_at, fitting, datum_at, record_at, taken_of}
 use Rattle.filed.specs.Meaning.{IsRecord, Begins, Says, Judges, Bytes, Exact}
-use Rattle.filed.specs.declared.Datum.TheVariants.{Value, Over, Under, Nothing}
 use Rattle.filed.specs.declared.Record.{Record}
 use Rattle.filed.specs.declared.Refusal.{Refusal}
 use Rattle.filed.specs.declared.Refusal.TheVariants as refusal

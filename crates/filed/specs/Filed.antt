@@ -10,7 +10,6 @@ use Rattle.line.specs.Buffer.{room, after}
 use Rattle.binary32.specs.Binary32.{value, gives}
 use Rattle.filed.specs.declared.Datum.{Datum}
 use Rattle.filed.specs.declared.Datum.TheVariants.{Value, Over, Under, Nothing}
-use Rattle.filed.specs.declared.Record.{Record}
 use Rattle.filed.specs.declared.Refusal.{Refusal}
 use Rattle.filed.specs.declared.Refusal.TheVariants as refusal
 use Rattle.filed.specs.declared.Written.{Written}

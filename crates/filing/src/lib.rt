@@ -1,5 +1,6 @@
 // A reading given as the historian takes it, and the writer and the reader of its records.
 #![tactic(auto)]
+
 ghost use Rattle.std.specs.Prelude.{◌≡◌, true, ◌∷◌, ◌+◌, ◌*◌, ◌^◌, ◌≤◌, eqb};
 ghost use Rattle.reading.specs.Reading.{displayable};
 ghost use Rattle.line.specs.Buffer.{after};

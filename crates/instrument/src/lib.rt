@@ -2,6 +2,7 @@
 // cannot see who looks at it: samples, keys, V and R change it, and T and P take it as it is and give what is shown. What is said of it
 // stands in specs/; the functions stand in `operating`, so that a claim is checked without them.
 #![tactic(auto)]
+
 use alarm::Alarm;
 use measured::Measured;
 use outputs::Outputs;

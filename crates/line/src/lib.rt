@@ -1,5 +1,6 @@
 // Reply lines, written into the buffer that the caller lends.
 #![tactic(auto)]
+
 ghost use Rattle.std.specs.Prelude.{◌≡◌, ◌≤◌, ◌<◌, length};
 ghost use Rattle.register.specs.Registers.{count};
 ghost use Rattle.field.specs.Field.{field, Showable};

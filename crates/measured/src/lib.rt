@@ -1,5 +1,6 @@
 // What is measured: the reading, and the total, max and min that are made of it.
 #![tactic(auto)]
+
 ghost use Rattle.std.specs.Prelude.{◌≡◌, true};
 ghost use Rattle.total.specs.Total.{Timed, in_range};
 ghost use Rattle.measured.specs.Measured.{powered_up, sampled, reset_total, reset_max, reset_min, batched, sound};

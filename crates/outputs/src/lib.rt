@@ -1,5 +1,6 @@
 // How the outputs are driven: the analog code, automatic or manual mode, and the status number, which is stored with them.
 #![tactic(auto)]
+
 ghost use Rattle.std.specs.Prelude.{◌≡◌, false, ◌≤◌};
 ghost use Rattle.exact.specs.Sign.{eq_z};
 ghost use Rattle.outputs.specs.Outputs.{status, driving, powered_up, sampled, coded, alarms_reset, automatic, write_code, to_manual, to_automatic, in_code, sound};

@@ -1,5 +1,5 @@
 -- What is claimed of data bytes that are read: they are read exactly where the reply rules make them, and as what these show.
-use Rattle.std.specs.Prelude.{ℕ, ◌≤◌, ◌≡◌, List, ℤ, length}
+use Rattle.std.specs.Prelude.{ℕ, ◌≡◌, List, length}
 use Rattle.reading.specs.declared.Reading.{Reading}
 use Rattle.reading.specs.declared.Reading.TheVariants.{Nothing, Under, Number, Over}
 use Rattle.field.specs.Field.{field, Showable}

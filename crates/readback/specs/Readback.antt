@@ -1,6 +1,6 @@
 -- What the 12 data bytes of a reply line say, read from the left: a number with its decimal places, a mark, or neither. `Meaning` says what
 -- that comes to: bytes are read exactly where the reply rules make them.
-use Rattle.std.specs.Prelude.{ℕ, ◌+◌, ◌-◌, ◌*◌, ◌^◌, Bool, true, false, cond, ◌&&◌, List, [], ◌∷◌, eqb, ltb, ℤ, pos}
+use Rattle.std.specs.Prelude.{ℕ, ◌+◌, ◌-◌, ◌*◌, ◌^◌, Bool, true, false, cond, ◌&&◌, List, [], ◌∷◌, eqb, ltb, pos}
 use Rattle.exact.specs.Sign.{minus}
 use Rattle.reading.specs.declared.Reading.TheVariants as reading
 use Rattle.register.specs.Bytes.{byte, ascii}

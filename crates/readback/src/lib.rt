@@ -1,5 +1,6 @@
 // The 12 data bytes of a reply line, read: a number with its decimal places, a mark, or neither.
 #![tactic(auto)]
+
 use reading::Reading;
 
 // What data bytes say: a number with its decimal places, or a mark, whose places are 0; or that no value makes them.

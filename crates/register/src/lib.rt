@@ -164,7 +164,7 @@ pub const READ: usize = 10;
 
 // What a display shows, and a total.
 const DISPLAY: Limits = Limits {
-    low: -19999,
+    low: -19_999,
     high: 99999,
 };
 

@@ -4,6 +4,7 @@
 //
 // Standard input is read in blocks, and standard output written in blocks, so the memory is the same for any input.
 #![tactic(auto)]
+
 ghost use Rattle.std.specs.Prelude.{ℕ, ◌≤◌, ◌≡◌, List, length, take};
 ghost use Rattle.text.specs.Line.{heard, goes_on, Carried, Turned, Streamed, finished};
 ghost use Rattle.text.specs.Output.{waiting, puts};

@@ -1,6 +1,7 @@
 // The segments of a scale, made once of the points of an accepted configuration, and an input read by its segment alone, or by the table
 // of a platinum sensor where that is the source.
 #![tactic(auto)]
+
 ghost use Rattle.std.specs.Prelude.{◌≡◌, false, ℕ, ◌-◌, ◌≤◌, ◌<◌, pos, nat_abs};
 ghost use Rattle.exact.specs.Sign.{is_neg};
 ghost use Rattle.reading.specs.Reading.{point, first_from, Scalable};

@@ -1,6 +1,7 @@
 // A scale as a meter holds it: its segments, each with its start, its rise and its run. What is said of it stands in specs/; the
 // functions stand in `scaling`, so that a claim is checked without them.
 #![tactic(auto)]
+
 use config::Source;
 
 // The rounding step, the source of the reading, the last segment in use, and at place k of each list what segment k has: the input and the

@@ -1,5 +1,4 @@
 -- `alarms::all_reset` meets its contract: what each of the four calls ensures, one on the other. Assumes nothing.
-use borrow.Author.Rules.{rules}
 use Rattle.alarms.proofs.all_reset.Goals as goal
 
 pub returns : goal.returns

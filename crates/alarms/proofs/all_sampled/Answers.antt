@@ -1,5 +1,4 @@
 -- `alarms::all_sampled` meets its contract: what each of the four calls ensures, put together. Assumes nothing.
-use borrow.Author.Rules.{rules}
 use Rattle.alarms.specs.Alarms.{all_sampled}
 use Rattle.alarms.proofs.all_sampled.Goals as goal
 

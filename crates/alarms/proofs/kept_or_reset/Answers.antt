@@ -1,5 +1,4 @@
 -- `alarms::kept_or_reset` meets its contract: the bit picks the alarm as it is or what the callee ensures. Assumes nothing.
-use borrow.Author.Rules.{rules}
 use Rattle.alarms.proofs.kept_or_reset.Goals as goal
 
 pub returns-else-kept : goal.returns-else-kept

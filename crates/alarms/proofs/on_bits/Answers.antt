@@ -1,5 +1,4 @@
 -- `alarms::on_bits` meets its contract: each bit is 0 or its weight, so the sum is at most 15. Assumes nothing.
-use borrow.Author.Rules.{rules}
 use native.Mathlib.Omega.{arith}
 use mathlib.Core.Path.{◌≡◌}
 use Prim.Native.Nat.{◌+◌, ◌≤◌}

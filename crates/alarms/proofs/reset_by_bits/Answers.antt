@@ -1,5 +1,4 @@
 -- `alarms::reset_by_bits` meets its contract: what each of the four calls ensures, put together. Assumes nothing.
-use borrow.Author.Rules.{rules}
 use Rattle.alarms.proofs.reset_by_bits.Goals as goal
 
 pub returns : goal.returns

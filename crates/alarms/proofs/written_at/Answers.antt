@@ -1,5 +1,4 @@
 -- `alarms::written_at` meets its contract: the alarm in its place is what the callee ensures. Assumes nothing.
-use borrow.Author.Rules.{rules}
 use mir.Facts.{to_z-of_z}
 use Rattle.alarms.proofs.written_at.Goals as goal
 

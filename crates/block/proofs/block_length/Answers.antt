@@ -1,5 +1,4 @@
 -- `block::block_length` meets its contract: there are at most 8 lines of at most 20 bytes. Assumes nothing.
-use borrow.Author.Rules.{rules}
 use native.Mathlib.Omega.{arith}
 use native.Mathlib.Nat.{mul-le-mul}
 use Prim.Native.Nat.{◌+◌, ◌*◌, ◌≤◌}

@@ -1,5 +1,4 @@
 -- `block::put_block` meets its contract: the readings' lines, the setpoints' and the end, each from the place behind the one before it. Assumes nothing.
-use borrow.Author.Rules.{rules}
 use native.Mathlib.Omega.{arith}
 use native.Mathlib.Nat.{zero-add}
 use mathlib.Core.Path.{◌≡◌, refl, sym, ap, ◌∙◌}

@@ -1,5 +1,4 @@
 -- `block::put_chosen` meets its contract: a chosen line is written over the tail from its place on, any other is no text. Assumes nothing.
-use borrow.Author.Rules.{rules}
 use native.Mathlib.Omega.{arith}
 use mathlib.Core.Path.{◌≡◌, sym}
 use Prim.Native.Nat.{◌+◌, ◌≤◌}

@@ -1,5 +1,4 @@
 -- `block::put_end` meets its contract: the end is written over the tail from its place on, where it is wanted. Assumes nothing.
-use borrow.Author.Rules.{rules}
 use native.Mathlib.Omega.{arith}
 use mathlib.Core.Path.{sym}
 use Prim.Native.Nat.{◌+◌, ◌≤◌}

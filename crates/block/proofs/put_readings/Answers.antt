@@ -1,5 +1,4 @@
 -- `block::put_readings` meets its contract: four lines, each from the place behind the one before it. Assumes nothing.
-use borrow.Author.Rules.{rules}
 use native.Mathlib.Omega.{arith}
 use native.Mathlib.Nat.{zero-add}
 use mathlib.Core.Path.{◌≡◌, ap, ◌∙◌}

@@ -1,5 +1,4 @@
 -- `block::put_setpoints` meets its contract: four lines, each from the place behind the one before it. Assumes nothing.
-use borrow.Author.Rules.{rules}
 use native.Mathlib.Omega.{arith}
 use mathlib.Core.Path.{◌≡◌, ap}
 use mathlib.Core.List.{List, ◌++◌}

@@ -1,5 +1,4 @@
 -- `bulk::number_of` meets its contract: each arm of the match is a case of the definition. Assumes nothing.
-use borrow.Author.Rules.{rules}
 use Rattle.exact.proofs.Z.{back32}
 use Rattle.bulk.proofs.number_of.Goals as goal
 

@@ -3,18 +3,14 @@ use borrow.Author.Rules.{rules}
 use native.Mathlib.Omega.{arith}
 use mathlib.Core.Path.{◌≡◌, refl, sym, ap, ◌∙◌}
 use mathlib.Core.Bool.{true}
-use mathlib.Core.List.{List}
-use Prim.Native.Nat.{ℕ, ◌-◌, ◌≤◌, ◌<◌}
+use Prim.Native.Nat.{◌<◌}
 use borrow.Author.Tests.{ltb-true, lt-ltb}
 use lib.Dec.{ltb}
-use lib.IntN.{ℤ}
 use lib.ListN.{length, take}
 use mir.Syntax.{w32}
 use mir.Val.{to_z, of_z}
-use Rattle.exact.proofs.Z.{never, both, back32, turned_true, turned_false}
-use Rattle.config.specs.declared.Source.{Source}
+use Rattle.exact.proofs.Z.{never, both, back32}
 use Rattle.segments.specs.Segments.{read, can_scale}
-use Rattle.segments.specs.declared.Segments.{Segments}
 use Rattle.segments.proofs.Scale.{scale_tested}
 use Rattle.bulk.specs.Bulk.{number_of, read_into, at}
 use Rattle.bulk.proofs.Reading.{read_length, one_more, no_more}

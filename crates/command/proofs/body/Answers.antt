@@ -4,7 +4,6 @@ use mathlib.Core.Path.{sym, ◌∙◌}
 use borrow.Author.Tests.{ne_eqb}
 use Rattle.command.specs.Parse.{body}
 use Rattle.numeral.proofs.Lists.{none, split}
-use borrow.Author.Rules.{rules}
 use Rattle.command.proofs.body.Goals as goal
 
 pub returns-then-s-eq0 : goal.returns-then-s-eq0

@@ -1,5 +1,4 @@
 -- `command::data_of` meets its contract: what the table says of the register is the case. Assumes nothing.
-use borrow.Author.Rules.{rules}
 use mathlib.Core.Path.{◌∙◌}
 use Rattle.command.specs.Parse.{data_of}
 use Rattle.command.proofs.data_of.Goals as goal

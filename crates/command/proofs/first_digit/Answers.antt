@@ -6,7 +6,6 @@ use Rattle.register.specs.Bytes.{byte}
 use Rattle.command.specs.Parse.{first_digit}
 use Rattle.numeral.proofs.Lists.{none, split}
 use Rattle.register.proofs.Ranges.{in_range, below_range, above_range}
-use borrow.Author.Rules.{rules}
 use Rattle.command.proofs.first_digit.Goals as goal
 
 pub returns-then-s-eq0 : goal.returns-then-s-eq0

@@ -7,7 +7,6 @@ use Rattle.register.specs.Bytes.{byte}
 use Rattle.command.specs.Parse.{body, parse}
 use Rattle.command.specs.declared.Parsed.TheVariants.{To}
 use Rattle.numeral.proofs.Lists.{none, split}
-use borrow.Author.Rules.{rules}
 use Rattle.command.proofs.parse.Goals as goal
 
 pub returns-then-s-eq0 : goal.returns-then-s-eq0

@@ -1,5 +1,4 @@
 -- `command::read` meets its contract: the list says whether T takes the register. Assumes nothing.
-use borrow.Author.Rules.{rules}
 use mathlib.Core.Path.{sym, ap, ◌∙◌}
 use Rattle.register.specs.declared.Register.{Register}
 use Rattle.command.specs.Parse.{reading}

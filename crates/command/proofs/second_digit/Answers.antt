@@ -2,7 +2,6 @@
 use native.Mathlib.Omega.{arith}
 use mathlib.Core.Path.{◌≡◌, sym, ap, ◌∙◌}
 use Prim.Native.Nat.{◌+◌, ◌-◌, ◌*◌}
-use mathlib.Core.Logic.{⊎_elim}
 use mathlib.Core.Bool.{false}
 use lib.ListN.{get_or}
 use Rattle.register.specs.Bytes.{byte}
@@ -11,7 +10,6 @@ use Rattle.command.specs.Parse.{body, second_digit}
 use Rattle.command.specs.declared.Parsed.TheVariants.{To}
 use Rattle.numeral.proofs.Lists.{none, split}
 use Rattle.register.proofs.Ranges.{in_range, below_range, above_range}
-use borrow.Author.Rules.{rules}
 use Rattle.command.proofs.second_digit.Goals as goal
 use Rattle.command.proofs.second_digit.Goals.{in_default-via-then-b-lt48, in_default-via-else-b-lt48+else-b-lt58}
 
@@ -35,7 +33,7 @@ returns-in_default c =
     let s = c.args.s.now in
     let b = get_or s 0 0 in
     let n : is_digit b ≡ false = elim c.in_default.branch [
-      in_default-via-then-b-lt48 w ↦ below_range (byte "0") (byte "9") b (omega arith)
-    | in_default-via-else-b-lt48+else-b-lt58 w ↦ above_range (byte "0") (byte "9") b (omega arith)
+      | in_default-via-then-b-lt48 w ↦ below_range (byte "0") (byte "9") b (omega arith)
+      | in_default-via-else-b-lt48+else-b-lt58 w ↦ above_range (byte "0") (byte "9") b (omega arith)
     ] in
     ap (To d) c.body-a-in_default.ensures ∙ sym (split (second_digit d) s (omega arith) ∙ rw (n, ← split body s (omega arith)))

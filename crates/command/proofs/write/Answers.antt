@@ -3,7 +3,6 @@ use native.Mathlib.Omega.{arith}
 use mathlib.Core.Path.{sym, ◌∙◌}
 use Rattle.command.specs.Parse.{writing}
 use Rattle.numeral.proofs.Lists.{none, split}
-use borrow.Author.Rules.{rules}
 use Rattle.command.proofs.write.Goals as goal
 
 pub returns-then-s-eq0 : goal.returns-then-s-eq0

@@ -1,5 +1,4 @@
 -- `command::write_number` meets its contract: the number reader's answer is the case. Assumes nothing.
-use borrow.Author.Rules.{rules}
 use mathlib.Core.Path.{sym, ap, ◌∙◌}
 use Rattle.exact.proofs.Z.{back32}
 use Rattle.command.specs.declared.Asked.TheVariants.{Write}

@@ -1,5 +1,4 @@
 -- `config::bench` meets its contract: the numbers that are not 0, put into a configuration with nothing in it. Assumes nothing.
-use borrow.Author.Rules.{rules}
 use Rattle.config.proofs.bench.Goals as goal
 
 pub returns : goal.returns

@@ -1,5 +1,4 @@
 -- `config::count_rule` meets its contract: the number is judged where the source is points. Assumes nothing.
-use borrow.Author.Rules.{rules}
 use mathlib.Core.Path.{◌∙◌}
 use mir.Facts.{to_z-of_z}
 use Rattle.config.proofs.count_rule.Goals as goal

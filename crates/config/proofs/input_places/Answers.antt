@@ -1,5 +1,4 @@
 -- `config::input_places` meets its contract: the places are judged where the source is a sensor. Assumes nothing.
-use borrow.Author.Rules.{rules}
 use mathlib.Core.Path.{◌∙◌}
 use mir.Facts.{to_z-of_z}
 use Rattle.config.proofs.input_places.Goals as goal

@@ -1,14 +1,10 @@
 -- `config::judged` meets its contract: past each rule that is kept the verdict is that of the rules behind it, and at one that is
 -- broken it is that rule's number. Assumes nothing.
--- ---- the configuration at each call, and what the call tells of its rule
--- ---- past a rule that is kept
--- ---- the answers
 use borrow.Author.Rules.{rules as the_rules}
 use mathlib.Core.Path.{◌≡◌, sym, ◌∙◌}
 use lib.ListN.{drop}
 use mir.Syntax.{w32}
 use mir.Val.{to_z, of_z}
-use Rattle.exact.proofs.Z.{turned_true, turned_false}
 use Rattle.config.specs.Config.{node_rule, places_rule_by, step_rule, count_rule, points_rule, total_rule, low_cut_rule, alarms_rule, capture_rule, analog_rule, rules, first_broken, judged}
 use Rattle.config.specs.declared.Config.{Config}
 use Rattle.config.proofs.Verdicts.{passes, breaks}
@@ -73,6 +69,8 @@ After-places_rule_by = lts.After-places_rule_by tie.the-claims reads.Pre reads.P
 
 abbrev After-is_within : Type 0
 After-is_within = lts.After-is_within tie.the-claims reads.Pre reads.Post
+
+-- ---- the configuration at each call, and what the call tells of its rule
 
 abbrev config1 : After-is_within → Config
 config1 c = c.args.c
@@ -144,6 +142,8 @@ config10 c = config9 c.before.before
 test10 : (c : After-analog_rule) → c.analog_rule.result ≡ analog_rule (config10 c).working.analog
 test10 c = c.analog_rule.ensures
 
+-- ---- past a rule that is kept
+
 past1 : (c : Else-not-is_within) → judged (config1 c.before) ≡ first_broken 2 (drop 1 (rules (config1 c.before)))
 unfolding judged rules
 past1 c = passes 1 _ _ (sym (test1 c.before) ∙ c.if-not-is_within.false)
@@ -183,6 +183,8 @@ past9 c = past8 c.before.before.before ∙ passes 9 _ _ (sym (test9 c.before) �
 past10 : (c : goal.Else-not-analog_rule) → judged (config10 c.before) ≡ first_broken 11 (drop 10 (rules (config10 c.before)))
 unfolding rules
 past10 c = past9 c.before.before ∙ passes 10 _ _ (sym (test10 c.before) ∙ c.if-not-analog_rule.false)
+
+-- ---- the answers
 
 pub returns-then-not-is_within : goal.returns-then-not-is_within
 unfolding judged rules

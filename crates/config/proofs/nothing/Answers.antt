@@ -1,5 +1,4 @@
 -- `config::nothing` meets its contract: every number is 0, and every yes/no setting no. Assumes nothing.
-use borrow.Author.Rules.{rules}
 use Rattle.config.proofs.nothing.Goals as goal
 
 pub returns : goal.returns

@@ -1,5 +1,4 @@
 -- `dividing::bits` meets its contract: a display's value is a number, and its bits are read. Assumes nothing.
-use borrow.Author.Rules.{rules}
 use mathlib.Core.Path.{◌≡◌, sym, ap, ◌∙◌, subst}
 use mathlib.Core.Bool.{Bool, not}
 use lib.Dec.{T}

@@ -1,6 +1,5 @@
 -- `dividing::has_bits` meets its contract: the number is judged as any result is, and of a display the bits are compared. Assumes nothing.
 use mathlib.Core.Path.{◌≡◌, sym, ap, ◌∙◌}
-use borrow.Author.Rules.{rules}
 use mir.Syntax.{w32, w64}
 use mir.Val.{to_z, of_z}
 use mir.ValLaws.{to_z-of_z}

@@ -1,5 +1,4 @@
 -- `dividing::value` meets its contract: display and power of ten become floats without loss. Assumes nothing.
-use borrow.Author.Rules.{rules}
 use mathlib.Core.Path.{◌≡◌, sym, subst}
 use native.Mathlib.Omega.{arith}
 use lib.Dec.{T, lit<}

@@ -1,7 +1,6 @@
 -- `filing::bytes_of` meets its contract: each arm of the match is a case of the definition. Assumes nothing.
 use mathlib.Core.Path.{◌≡◌, sym, ap, ◌∙◌, subst}
 use mathlib.Core.Bool.{true}
-use borrow.Author.Rules.{rules}
 use Rattle.exact.proofs.Z.{holds}
 use Rattle.filed.specs.Filed.{has_bits, record_of}
 use Rattle.filed.specs.declared.Datum.{Datum}

@@ -1,7 +1,6 @@
 -- `filing::datum` meets its contract: each arm of the match is a case of the definition. Assumes nothing.
 use mathlib.Core.Path.{◌≡◌, sym, ap, ◌∙◌, subst}
 use mathlib.Core.Bool.{true}
-use borrow.Author.Rules.{rules}
 use mir.Syntax.{w32}
 use mir.Val.{to_z, of_z}
 use Rattle.exact.proofs.Z.{back32}

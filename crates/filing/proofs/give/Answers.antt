@@ -3,14 +3,13 @@ use mathlib.Core.Path.{◌≡◌, sym, ap, ◌∙◌, subst}
 use mathlib.Core.Bool.{true}
 use Prim.Native.Nat.{◌≤◌}
 use native.Mathlib.Omega.{arith}
-use borrow.Author.Rules.{rules}
 use lib.Dec.{T}
 use lib.IntN.{ℤ, nat_abs}
 use lib.Signed.{non_neg}
 use mir.Syntax.{w32}
 use mir.Val.{to_z, of_z}
 use mir.ValLaws.{to_z-of_z}
-use Rattle.exact.proofs.Z.{turned_true, turned_false, from_to, non_neg_is}
+use Rattle.exact.proofs.Z.{from_to, non_neg_is}
 use Rattle.reading.specs.Reading.{displayable}
 use Rattle.filed.specs.Filed.{datum_of, in_places, given_of}
 use Rattle.filed.specs.declared.Datum.{Datum}

@@ -1,7 +1,6 @@
 -- `filing::lay` meets its contract: with room for all of it the record is laid from the place on, and without it nothing is written. Assumes nothing.
 use mathlib.Core.Path.{◌≡◌, sym, ◌∙◌}
 use Prim.Native.Nat.{◌-◌, ◌≤◌}
-use native.Mathlib.Omega.{arith}
 use borrow.Author.Rules.{rules}
 use lib.ListN.{length}
 use Rattle.line.proofs.Over.{tail_length, roomy, wrote, refused}

@@ -1,7 +1,6 @@
 -- `filing::read` meets its contract: the refusals come in their order, and behind them the record is judged. Assumes nothing.
 use mathlib.Core.Path.{◌≡◌, ap, ◌∙◌}
 use mathlib.Core.Bool.{true, not, ◌||◌}
-use borrow.Author.Rules.{rules}
 use borrow.Author.Tests.{eq-eqb, ne_eqb, lt-ltb, le-ltb, ltb-false}
 use Prim.Native.Nat.{ℕ}
 use lib.Dec.{eqb, ltb}

@@ -1,5 +1,4 @@
 -- `filing::record_at` meets its contract: the arm says which kind it is. Assumes nothing.
-use borrow.Author.Rules.{rules}
 use borrow.Author.Tests.{ne_eqb}
 use Rattle.filed.specs.Filed.{record_at}
 use Rattle.filing.proofs.record_at.Goals as goal

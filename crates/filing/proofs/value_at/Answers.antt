@@ -1,6 +1,5 @@
 -- `filing::value_at` meets its contract: bits that some display has are no NaN's, so that they are made a float. Assumes nothing.
 use mathlib.Core.Path.{sym, ◌∙◌}
-use borrow.Author.Rules.{rules}
 use Rattle.filed.specs.Filed.{record_at}
 use Rattle.dividing.proofs.Values.{given_number}
 use Rattle.filing.proofs.value_at.Goals as goal

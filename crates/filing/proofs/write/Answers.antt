@@ -1,6 +1,5 @@
 -- `filing::write` meets its contract: what is given is laid into the buffer, and what is refused leaves it. Assumes nothing.
 use mathlib.Core.Path.{◌≡◌, sym, ap, ◌∙◌}
-use borrow.Author.Rules.{rules}
 use mir.Syntax.{w32}
 use mir.ValLaws.{to_z-of_z}
 use Rattle.line.specs.Buffer.{after}

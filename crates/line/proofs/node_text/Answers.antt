@@ -1,5 +1,4 @@
 -- `line::node_text` meets its contract: a node of at most two digits has them as its tens and its ones. Assumes nothing.
-use borrow.Author.Rules.{rules}
 use borrow.Author.Tests.{ne_eqb}
 use native.Mathlib.Omega.{arith}
 use mathlib.Core.Path.{◌≡◌}

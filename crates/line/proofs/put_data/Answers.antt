@@ -1,5 +1,4 @@
 -- `line::put_data` meets its contract: the line's end is written over the tail behind the data. Assumes nothing.
-use borrow.Author.Rules.{rules}
 use native.Mathlib.Omega.{arith}
 use Rattle.field.proofs.Length.{field_length}
 use Rattle.line.specs.Line.{line_end, abbreviated_line}

@@ -1,5 +1,4 @@
 -- `line::put_field` meets its contract: the first twelve bytes are lent, and come back as the field. Assumes nothing.
-use borrow.Author.Rules.{rules}
 use Rattle.field.proofs.Length.{field_length}
 use Rattle.line.specs.Buffer.{over}
 use Rattle.line.proofs.put_field.Goals as goal

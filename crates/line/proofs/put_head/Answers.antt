@@ -1,5 +1,4 @@
 -- `line::put_head` meets its contract: three texts, each written over the tail behind the one before it. Assumes nothing.
-use borrow.Author.Rules.{rules}
 use native.Mathlib.Omega.{arith}
 use mathlib.Core.Path.{◌≡◌, ap, ◌∙◌}
 use mathlib.Core.List.{◌++◌, ◌∷◌, []}

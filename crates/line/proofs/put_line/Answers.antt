@@ -1,5 +1,4 @@
 -- `line::put_line` meets its contract: an abbreviated line is the data alone, and a full one has it over the tail behind its head. Assumes nothing.
-use borrow.Author.Rules.{rules}
 use native.Mathlib.Omega.{arith}
 use Prim.Native.Nat.{◌≤◌}
 use lib.ListN.{length}

@@ -1,6 +1,4 @@
 -- `line::write_line` meets its contract: with room for all of it the line is laid from the place on, and without it nothing is written. Assumes nothing.
-use borrow.Author.Rules.{rules}
-use native.Mathlib.Omega.{arith}
 use mathlib.Core.Path.{◌≡◌, sym, ◌∙◌}
 use Prim.Native.Nat.{◌-◌, ◌≤◌}
 use lib.ListN.{length}

@@ -1,5 +1,4 @@
 -- `measured::reset_min` meets its contract: min is what the callee makes of the present reading, all else stands. Assumes nothing.
-use borrow.Author.Rules.{rules}
 use Rattle.measured.proofs.reset_min.Goals as goal
 
 pub returns : goal.returns

@@ -1,5 +1,4 @@
 -- `measured::reset_total` meets its contract: the total is what the callee ensures, all else stands. Assumes nothing.
-use borrow.Author.Rules.{rules}
 use Rattle.measured.proofs.reset_total.Goals as goal
 
 pub returns : goal.returns

@@ -1,5 +1,4 @@
 -- `outputs::driving` meets its contract: the status is what the callee ensures, and the code is read back from its bits. Assumes nothing.
-use borrow.Author.Rules.{rules}
 use mir.Facts.{to_z-of_z}
 use Rattle.outputs.proofs.driving.Goals as goal
 

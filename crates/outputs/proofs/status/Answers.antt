@@ -1,5 +1,4 @@
 -- `outputs::status` meets its contract: each mode has its case, and the numbers fit. Assumes nothing.
-use borrow.Author.Rules.{rules}
 use native.Mathlib.Omega.{arith}
 use Rattle.outputs.specs.Outputs.{status}
 use Rattle.outputs.proofs.status.Goals as goal

@@ -1,14 +1,6 @@
-use native.Mathlib.Omega.{arith}
-use mathlib.Core.Path.{◌≡◌, refl, ap₂, ◌∙◌}
-use Prim.Native.Nat.{ℕ, ◌+◌, ◌-◌, ◌≤◌}
-use lib.IntN.{ℤ}
-use mir.Syntax.{w32}
-use mir.Val.{to_z, of_z, SFits}
-use mir.Facts.{to_z-of_z}
-use Rattle.exact.proofs.Z.{back32, abs_fits, abs_sub_le}
-use Rattle.reading.specs.Reading.{point}
-use Rattle.segments.specs.Segments.{listed, difference_of, held}
-use Rattle.segments.proofs.Listed.{filled}
+use mathlib.Core.Path.{◌≡◌}
+use Prim.Native.Nat.{◌-◌, ◌≤◌}
+use Rattle.segments.specs.Segments.{difference_of, held}
 use Rattle.scaling.proofs.differences.Given as goal
 
 abbrev pub invariant-loop-k : goal.invariant-loop-k

@@ -1,5 +1,4 @@
 -- `scaling::is_tested` meets its contract: the three tests, put together. Assumes nothing.
-use borrow.Author.Rules.{rules}
 use mir.Facts.{to_z-of_z}
 use Rattle.segments.specs.Segments.{tested}
 use Rattle.scaling.proofs.is_tested.Goals as goal

@@ -1,5 +1,4 @@
 -- `scaling::on_segments` meets its contract: each test picks its case, and the segment's four numbers are the definition's. Assumes nothing.
-use borrow.Author.Rules.{rules}
 use native.Mathlib.Omega.{arith}
 use mathlib.Core.Path.{◌≡◌, ◌∙◌}
 use mathlib.Core.Bool.{true, false}

@@ -1,5 +1,4 @@
 -- `scaling::reading_of` meets its contract: each arm is a source. Assumes nothing.
-use borrow.Author.Rules.{rules}
 use mathlib.Core.Path.{◌∙◌}
 use mir.Facts.{to_z-of_z}
 use Rattle.scaling.proofs.reading_of.Goals as goal

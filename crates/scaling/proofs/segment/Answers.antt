@@ -1,7 +1,7 @@
 -- `scaling::segment` meets its contract. The invariant: the first segment from i on is the one that is looked for. Assumes nothing.
 use mathlib.Core.Path.{◌≡◌, sym, ap, ◌∙◌}
 use mathlib.Core.Bool.{Bool}
-use Prim.Native.Nat.{◌≤◌, ◌+◌, ◌-◌}
+use Prim.Native.Nat.{◌+◌, ◌-◌}
 use native.Mathlib.Omega.{arith}
 use lib.Signed.{le_z}
 use mir.Syntax.{w32}

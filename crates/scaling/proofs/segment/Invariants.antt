@@ -1,14 +1,6 @@
-use mathlib.Core.Path.{◌≡◌, sym, ap, ◌∙◌}
-use mathlib.Core.Bool.{Bool}
-use Prim.Native.Nat.{◌≤◌, ◌+◌, ◌-◌}
-use native.Mathlib.Omega.{arith}
-use lib.Signed.{le_z}
-use mir.Syntax.{w32}
-use mir.Val.{to_z, of_z}
-use mir.Facts.{to_z-of_z}
-use Rattle.exact.proofs.Z.{back32}
-use Rattle.reading.specs.Reading.{point, first_from}
-use Rattle.reading.proofs.Search.{stop, hit, next}
+use mathlib.Core.Path.{◌≡◌}
+use Prim.Native.Nat.{◌≤◌, ◌-◌}
+use Rattle.reading.specs.Reading.{first_from}
 use Rattle.scaling.proofs.segment.Given as goal
 
 -- the input is its bits here

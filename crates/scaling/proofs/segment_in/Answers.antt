@@ -1,5 +1,4 @@
 -- `scaling::segment_in` meets its contract: both numbers are read back from their bits. Assumes nothing.
-use borrow.Author.Rules.{rules}
 use mir.Facts.{to_z-of_z}
 use Rattle.scaling.proofs.segment_in.Goals as goal
 

@@ -1,8 +1,6 @@
 -- `scaling::segments_in` meets its contract. The invariant: what is kept says of the segments passed whether all are such. Assumes nothing.
-use borrow.Author.Rules.{rules}
 use native.Mathlib.Omega.{arith}
 use mathlib.Core.Path.{◌≡◌, refl, sym, ap, ◌∙◌}
-use Prim.Native.Nat.{◌≤◌, ◌-◌}
 use Rattle.exact.proofs.Z.{back32}
 use Rattle.reading.specs.Reading.{point, up_to}
 use Rattle.reading.proofs.Walk.{walk_next}

@@ -1,10 +1,6 @@
-use borrow.Author.Rules.{rules}
-use native.Mathlib.Omega.{arith}
-use mathlib.Core.Path.{◌≡◌, refl, sym, ap, ◌∙◌}
+use mathlib.Core.Path.{◌≡◌}
 use Prim.Native.Nat.{◌≤◌, ◌-◌}
-use Rattle.exact.proofs.Z.{back32}
-use Rattle.reading.specs.Reading.{point, up_to}
-use Rattle.reading.proofs.Walk.{walk_next}
+use Rattle.reading.specs.Reading.{up_to}
 use Rattle.segments.specs.Segments.{segment_at}
 use Rattle.scaling.proofs.segments_in.Given as goal
 

@@ -1,7 +1,7 @@
 -- `scaling::starts` meets its contract. The invariant: the segments before k have their number, and no other has one. Assumes nothing.
 use native.Mathlib.Omega.{arith}
 use mathlib.Core.Path.{◌≡◌, refl, ap, ◌∙◌}
-use Prim.Native.Nat.{ℕ, ◌-◌, ◌≤◌}
+use Prim.Native.Nat.{ℕ, ◌-◌}
 use lib.IntN.{pos}
 use Rattle.exact.proofs.Z.{back32}
 use Rattle.segments.specs.Segments.{listed, start_of, held}

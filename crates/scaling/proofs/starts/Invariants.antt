@@ -1,10 +1,7 @@
-use native.Mathlib.Omega.{arith}
-use mathlib.Core.Path.{◌≡◌, refl, ap, ◌∙◌}
-use Prim.Native.Nat.{ℕ, ◌-◌, ◌≤◌}
+use mathlib.Core.Path.{◌≡◌}
+use Prim.Native.Nat.{◌-◌, ◌≤◌}
 use lib.IntN.{pos}
-use Rattle.exact.proofs.Z.{back32}
-use Rattle.segments.specs.Segments.{listed, start_of, held}
-use Rattle.segments.proofs.Listed.{filled}
+use Rattle.segments.specs.Segments.{start_of, held}
 use Rattle.scaling.proofs.starts.Given as goal
 
 abbrev pub invariant-loop-k : goal.invariant-loop-k

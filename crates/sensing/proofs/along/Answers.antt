@@ -1,5 +1,4 @@
 -- `sensing::along` meets its contract: each step of the fraction fits, so the fraction that is rounded is the definition's. Assumes nothing.
-use borrow.Author.Rules.{rules}
 use native.Mathlib.Omega.{arith}
 use mathlib.Core.Path.{◌≡◌, sym, ◌∙◌}
 use lib.IntN.{pos}

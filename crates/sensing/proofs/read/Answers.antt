@@ -1,5 +1,4 @@
 -- `sensing::read` meets its contract: each test picks its case, and the constants are the definition's table. Assumes nothing.
-use borrow.Author.Rules.{rules}
 use native.Mathlib.Omega.{arith}
 use mathlib.Core.Path.{◌≡◌, refl, sym, ◌∙◌}
 use mathlib.Core.Bool.{true, false}

@@ -1,0 +1,13 @@
+-- `replay::answered` meets its contract: what is printed leaves the meter and the buffer as the event left them. Assumes nothing.
+use mathlib.Core.Path.{refl}
+use Rattle.text.specs.Line.{heard}
+use Rattle.text.specs.Output.{waiting}
+use Rattle.replay.proofs.Stream.{told_stand}
+use Rattle.replay.proofs.answered.Goals as goal
+
+pub returns : goal.returns
+returns c =
+    let e = c.event-t.ensures in
+    let w = c.put_said-out.ensures in
+    let a = c.args in
+    record { len_value = refl; buf_after = told_stand a.s.meter a.buffer.now (waiting a.s.out.at a.buf.now) (heard a.line.now a.len) _ _ _ e.value e.buffer_after w }

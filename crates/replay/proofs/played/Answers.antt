@@ -1,0 +1,10 @@
+-- `replay::played` meets its contract: the blocks that were read make one stream, and its last line counts. Assumes nothing.
+use mathlib.Core.Path.{refl, ap, ◌∙◌}
+use Rattle.text.proofs.Streams.{whole}
+use Rattle.replay.specs.Replay.{Stand, heard_by}
+use Rattle.replay.proofs.played.Goals as goal
+
+pub returns : goal.returns
+returns c =
+    let streamed = rw c.begun.ensures at c.run-s.ensures in
+    (streamed.stream, ap (λ (x : Stand). x.out) (c.end-e.ensures ∙ whole heard_by refl streamed))

@@ -1,0 +1,10 @@
+use Rattle.text.specs.Line.{Streamed}
+use Rattle.replay.specs.Replay.{standing, heard_by}
+use Rattle.replay.proofs.run.Given as goal
+
+abbrev pub invariant-loop-turns : goal.invariant-loop-turns
+invariant-loop-turns l =
+    Streamed heard_by l.initial.line l.initial.t.state.len (standing l.initial.t.state l.initial.buffer l.initial.buf) (standing l.t.state l.buffer l.buf) l.line l.t.state.len
+
+abbrev pub decreases-loop-turns : goal.decreases-loop-turns
+decreases-loop-turns l = l.turns
