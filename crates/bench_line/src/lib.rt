@@ -1,5 +1,6 @@
 // The lines of the bench program: what a line says, and what is printed of what it is told.
 #![tactic(auto)]
+
 pub mod grammar;
 
 ghost use Rattle.std.specs.Prelude.{◌≡◌};

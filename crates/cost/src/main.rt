@@ -12,6 +12,7 @@
 //     P times          as M, to a meter with a platinum sensor, whose inputs read what those of M do
 //     O times          as R, by that sensor
 #![tactic(auto)]
+
 ghost use Rattle.std.specs.Prelude.{◌<◌, ◌≤◌, length, IfOk};
 
 use alarm::Settings;
@@ -269,13 +270,7 @@ fn put_unknown(to: Stdout) -> io::Result<()> {
 // ---- the lines
 
 // S, N and K, which have a number.
-fn numbered(
-    to: Stdout,
-    letter: u8,
-    times: u64,
-    number: i32,
-    buffer: &mut [u8],
-) -> io::Result<()> {
+fn numbered(to: Stdout, letter: u8, times: u64, number: i32, buffer: &mut [u8]) -> io::Result<()> {
     match letter {
         b'S' => put_outcome(to, samples(started(), number, times), buffer),
         b'N' => put_outcome(to, samples(not_started(), number, times), buffer),
@@ -324,7 +319,11 @@ fn events(to: Stdout, letter: u8, times: u64, rest: &[u8]) -> io::Result<()> {
         b'M' => put_outcome(to, mixed_samples(started(), &INPUTS, times), &mut buffer),
         b'B' => with_bytes(to, times, rest, &mut buffer),
         b'R' => in_bulk(to, started(), &INPUTS, times),
-        b'P' => put_outcome(to, mixed_samples(sensor_started(), &OHMS, times), &mut buffer),
+        b'P' => put_outcome(
+            to,
+            mixed_samples(sensor_started(), &OHMS, times),
+            &mut buffer,
+        ),
         b'O' => in_bulk(to, sensor_started(), &OHMS, times),
         _ => with_number(to, letter, times, text::read_number(rest), &mut buffer),
     }

@@ -6,7 +6,7 @@ use lib.IntN.{nat_abs}
 use Rattle.exact.proofs.Z.{from_to}
 use Rattle.register.specs.Registers.{at, count}
 use Rattle.field.specs.Field.{Showable}
-use Rattle.line.specs.Line.{line, Writable}
+use Rattle.line.specs.Line.{Writable}
 use Rattle.block.specs.Block.{block}
 use Rattle.block.specs.Values.{value_at, places_of, value_line, Printable}
 use Rattle.block.proofs.Blocks.{block_same}

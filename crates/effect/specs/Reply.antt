@@ -1,5 +1,5 @@
 -- What T and P reply.
-use Rattle.std.specs.Prelude.{Bool, List, ℕ, ℤ, nat_abs}
+use Rattle.std.specs.Prelude.{List, ℕ, nat_abs}
 use Rattle.config.specs.declared.Talking.{Talking}
 use Rattle.config.specs.declared.Working.{Working}
 use Rattle.line.specs.Line.{line}

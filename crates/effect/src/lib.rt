@@ -1,6 +1,7 @@
 // What a key or a string asks is carried out, over settings and instrument alone: the answer, the instrument afterwards, and a reply in
 // the lent buffer. Neither the receiver nor the rest of a meter is handed over.
 #![tactic(auto)]
+
 mod reply;
 
 ghost use Rattle.std.specs.Prelude.{◌≡◌, true, ℕ, ◌≤◌, ◌<◌};

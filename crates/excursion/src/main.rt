@@ -3,6 +3,7 @@
 // delay from the last poll. The example is `looking`'s own, and each printed state has a contract by its definition `lit`, so that its
 // theorem `OffDelay.always` speaks of these rows.
 #![tactic(auto)]
+
 ghost use Rattle.std.specs.Prelude.{◌≡◌, ◌∷◌, ℤ, pos};
 ghost use Rattle.alarms.specs.Alarms.{alarm_at};
 ghost use Rattle.instrument.specs.Instrument.{read};

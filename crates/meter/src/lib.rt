@@ -1,6 +1,7 @@
 // The meter: a configuration, the instrument and the receiver, and the four calls that answer every configuration, sample, key and
 // byte. Nothing is left to the caller to check first.
 #![tactic(auto)]
+
 mod door;
 pub mod slices;
 

@@ -1,5 +1,6 @@
 // What changes the instrument, and what is shown of it: samples, keys, V and R, and T and P.
 #![tactic(auto)]
+
 ghost use Rattle.std.specs.Prelude.{◌≡◌, true, false, ◌≤◌, ◌<◌};
 ghost use Rattle.exact.specs.Sign.{eq_z};
 ghost use Rattle.total.specs.Total.{Timed, in_range};

@@ -1,5 +1,6 @@
 // What a line of the replayed history shows: the answer, the whole state of the meter, and the buffer.
 #![tactic(auto)]
+
 ghost use Rattle.std.specs.Prelude.{◌≡◌, ◌≤◌, [], ◌∷◌, length, take};
 ghost use Rattle.text.specs.Output.{waiting, puts};
 ghost use Rattle.show.specs.Show.{named, counted, answer_pieces, power_line, reading_word, quotient_of, total_words, trimmed, buffer_words, streak_words, extreme_words, measured_words, setpoint_words, on_digit, state_words, run_words, alarm_words, mode_words, output_words, received_words, meter_words, is_not_started, event_line};

@@ -1,5 +1,4 @@
 -- `effect::batch` meets its contract: the batch setting decides. Assumes nothing.
-use borrow.Author.Rules.{rules}
 use Rattle.effect.proofs.batch.Goals as goal
 
 pub returns-then-totalizer : goal.returns-then-totalizer

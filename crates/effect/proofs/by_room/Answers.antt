@@ -1,5 +1,4 @@
 -- `effect::by_room` meets its contract: each case has its answer and its instrument. Assumes nothing.
-use borrow.Author.Rules.{rules}
 use Rattle.effect.proofs.by_room.Goals as goal
 
 pub returns-in-Bytes : goal.returns-in-Bytes

@@ -1,7 +1,6 @@
 -- `effect::is_able` meets its contract: the settings are judged before the instrument, whose test leans on the time base. Assumes nothing.
-use borrow.Author.Rules.{rules}
 use mathlib.Core.Path.{◌≡◌, sym, ◌∙◌}
-use mathlib.Core.Bool.{true, ◌&&◌}
+use mathlib.Core.Bool.{◌&&◌}
 use Rattle.effect.specs.Able.{can_talk, can_work, able}
 use Rattle.effect.proofs.Able.{timed}
 use Rattle.effect.proofs.is_able.Goals as goal

@@ -1,5 +1,4 @@
 -- `effect::line` meets its contract: the reply is written, and what became of it says the rest. Assumes nothing.
-use borrow.Author.Rules.{rules}
 use mathlib.Core.Path.{◌∙◌}
 use Rattle.effect.proofs.line.Goals as goal
 

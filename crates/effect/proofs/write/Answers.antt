@@ -1,5 +1,4 @@
 -- `effect::write` meets its contract: the test of the register decides. Assumes nothing.
-use borrow.Author.Rules.{rules}
 use mathlib.Core.Path.{sym, ◌∙◌}
 use mir.Facts.{to_z-of_z}
 use Rattle.effect.proofs.write.Goals as goal

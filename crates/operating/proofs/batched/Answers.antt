@@ -1,5 +1,4 @@
 -- `operating::batched` meets its contract: the measured part is what the callee ensures, all else stands. Assumes nothing.
-use borrow.Author.Rules.{rules}
 use Rattle.operating.proofs.batched.Goals as goal
 
 pub returns : goal.returns

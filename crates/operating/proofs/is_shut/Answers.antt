@@ -1,5 +1,4 @@
 -- `operating::is_shut` meets its contract: the register and the mode. Assumes nothing.
-use borrow.Author.Rules.{rules}
 use Rattle.operating.proofs.is_shut.Goals as goal
 
 pub returns : goal.returns

@@ -1,5 +1,4 @@
 -- `operating::is_sound` meets its contract: what the tests of the three parts ensure, put together. Assumes nothing.
-use borrow.Author.Rules.{rules}
 use Rattle.instrument.specs.Instrument.{sound}
 use Rattle.operating.proofs.is_sound.Goals as goal
 

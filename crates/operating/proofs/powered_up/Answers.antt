@@ -1,5 +1,4 @@
 -- `operating::powered_up` meets its contract: what the calls ensure, put together. Assumes nothing.
-use borrow.Author.Rules.{rules}
 use Rattle.operating.proofs.powered_up.Goals as goal
 
 pub returns : goal.returns

@@ -1,5 +1,4 @@
 -- `operating::reset_alarms` meets its contract: what the callees ensure, one on the other. Assumes nothing.
-use borrow.Author.Rules.{rules}
 use mathlib.Core.Path.{◌∙◌}
 use Rattle.operating.proofs.reset_alarms.Goals as goal
 

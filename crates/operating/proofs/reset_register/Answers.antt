@@ -1,5 +1,4 @@
 -- `operating::reset_register` meets its contract: the register picks the callee. Assumes nothing.
-use borrow.Author.Rules.{rules}
 use borrow.Author.Tests.{ne_eqb}
 use Rattle.instrument.specs.Instrument.{reset_register}
 use Rattle.operating.proofs.reset_register.Goals as goal

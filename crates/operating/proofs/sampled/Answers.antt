@@ -1,5 +1,4 @@
 -- `operating::sampled` meets its contract: what the calls ensure, put together in the order of the work. Assumes nothing.
-use borrow.Author.Rules.{rules}
 use Rattle.operating.proofs.sampled.Goals as goal
 
 pub returns : goal.returns

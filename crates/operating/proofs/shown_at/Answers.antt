@@ -1,5 +1,4 @@
 -- `operating::shown_at` meets its contract: the register picks what is shown, which is what the callee ensures or a number read back from its bits. Assumes nothing.
-use borrow.Author.Rules.{rules}
 use borrow.Author.Tests.{ne_eqb}
 use native.Mathlib.Omega.{arith}
 use mathlib.Core.Path.{◌≡◌, ap}

@@ -1,5 +1,4 @@
 -- `operating::with_reset` meets its contract: the outputs are what the callee ensures for the alarms that are on. Assumes nothing.
-use borrow.Author.Rules.{rules}
 use Rattle.operating.proofs.with_reset.Goals as goal
 
 pub returns : goal.returns

@@ -1,5 +1,4 @@
 -- `operating::write_register` meets its contract: the register picks the callee. Assumes nothing.
-use borrow.Author.Rules.{rules}
 use borrow.Author.Tests.{eq-eqb, ne_eqb}
 use mir.Facts.{to_z-of_z}
 use Rattle.instrument.specs.Instrument.{write_register}

@@ -1,5 +1,4 @@
 -- `operating::write_status` meets its contract: bit 4 picks the mode; alarms and outputs are what the callees ensure. Assumes nothing.
-use borrow.Author.Rules.{rules}
 use mathlib.Core.Path.{◌≡◌, sym, ◌∙◌}
 use Rattle.alarms.specs.Alarms.{bit}
 use Rattle.instrument.specs.Instrument.{write_status}

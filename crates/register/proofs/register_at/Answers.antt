@@ -1,5 +1,6 @@
 -- `register::register_at` meets its contract: the table in the code is the list of `Registers`, but for what V writes. Assumes nothing.
 use borrow.Author.Rules.{rules}
+use native.Mathlib.Omega.{arith}
 use Rattle.register.specs.Registers.{registers, no_register, register_of, entry}
 use Rattle.register.proofs.Columns.{column, past}
 use Rattle.register.proofs.register_at.Goals as goal
@@ -10,4 +11,4 @@ returns-then-index-lt-COUNT c = column register_of registers c.args.index no_reg
 
 pub returns : goal.returns
 unfolding entry
-returns c = past register_of registers c.args.index no_register c.if-index-lt-COUNT.false
+returns c = past register_of registers c.args.index no_register (omega arith)

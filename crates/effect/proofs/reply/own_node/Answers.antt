@@ -1,8 +1,5 @@
 -- `effect::reply::own_node` meets its contract: a node of 0 to 99 is a byte. Assumes nothing.
-use borrow.Author.Rules.{rules}
 use native.Mathlib.Omega.{arith}
-use mathlib.Core.Path.{ap}
-use lib.IntN.{nat_abs}
 use mir.Facts.{to_z-of_z}
 use Rattle.exact.proofs.Z.{from_to, non_neg_is}
 use Rattle.effect.proofs.reply.own_node.Goals as goal

@@ -1,5 +1,4 @@
 -- `effect::reply::print` meets its contract: what is shown fits a block, and the block is written as a whole reply. Assumes nothing.
-use borrow.Author.Rules.{rules}
 use mathlib.Core.Path.{◌≡◌, ◌∙◌}
 use Rattle.block.specs.Block.{block}
 use Rattle.block.specs.Values.{value_line}

@@ -1,5 +1,4 @@
 -- `effect::reply::read` meets its contract: what is shown fits a line, and the line is written as a whole reply. Assumes nothing.
-use borrow.Author.Rules.{rules}
 use native.Mathlib.Omega.{arith}
 use mathlib.Core.Path.{◌≡◌, ◌∙◌}
 use Rattle.line.specs.Line.{line}

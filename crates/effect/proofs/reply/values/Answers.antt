@@ -1,5 +1,4 @@
 -- `effect::reply::values` meets its contract: each value as its register shows it. Assumes nothing.
-use borrow.Author.Rules.{rules}
 use Rattle.effect.proofs.reply.values.Goals as goal
 
 pub returns : goal.returns
