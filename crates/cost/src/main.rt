@@ -366,7 +366,7 @@ fn lines(to: Stdout, block: &[u8], line: &mut [u8; KEPT]) {
     }
 }
 
-// Reads on until the block is full or the input ends. Answers how many bytes came.
+// Reads on until the block is full, the input ends or a read fails. Answers how many bytes came.
 fn filled(mut input: Stdin, block: &mut [u8]) -> usize
     ensures { result ≤ length block.new }
 {
