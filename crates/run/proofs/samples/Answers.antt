@@ -1,4 +1,5 @@
 -- `run::samples` meets its contract: tenths that are not below 1 are a natural number, and twice that is at least 1 and fits. Assumes nothing.
+use borrow.Author.Rules.{rules}
 use borrow.Author.Tests.{ltb-true, ltb-false}
 use native.Mathlib.Omega.{arith}
 use mathlib.Core.Path.{◌≡◌, refl, sym}
@@ -8,11 +9,16 @@ use lib.Dec.{T}
 use lib.IntN.{ℤ, pos, negsuc, nat_abs}
 use lib.Signed.{lt_z, non_neg}
 use mir.Syntax.{w32}
-use mir.Val.{SFits}
+use mir.Val.{SFits, to_z, of_z}
 use mir.Facts.{to_z-of_z}
 use Rattle.exact.proofs.Z.{never}
 use Rattle.run.specs.Run.{samples}
 use Rattle.run.proofs.samples.Goals as goal
+use Rattle.run.proofs.samples.Lts as lts
+use Rattle.run.proofs.samples.Reads as reads
+
+abbrev Else-tenths : Type 0
+Else-tenths = lts.Else1 reads.Pre reads.Post
 
 -- what is known of tenths that are not below 1
 record Natural (z : ℤ) : Type 0 where
@@ -30,8 +36,11 @@ unfolding samples
 shortest (pos n) e = omega (arith, ltb-true)
 shortest (negsuc n) e = refl
 
-tenths : (c : goal.Else-tenths-lt1) → Natural c.args.tenths
-tenths c = natural _ c.ranges.tenths (rw (to_z-of_z c.ranges.tenths) at c.if-tenths-lt1.false)
+-- the test is found by what it says, so that one of another number is refused here
+tenths : (c : Else-tenths) → Natural c.args.tenths
+tenths c =
+    let e : lt_z (to_z w32 (of_z w32 c.args.tenths)) (pos 1) ≡ false = search rules in
+    natural _ c.ranges.tenths (rw (to_z-of_z c.ranges.tenths) at e)
 
 pub overflow_cast-result : goal.overflow_cast-result
 overflow_cast-result c =

