@@ -1,4 +1,5 @@
 -- `filing::read` meets its contract: the refusals come in their order, and behind them the record is judged. Assumes nothing.
+use native.Mathlib.Omega.{arith}
 use mathlib.Core.Path.{◌≡◌, ap, ◌∙◌}
 use mathlib.Core.Bool.{true, not, ◌||◌}
 use borrow.Author.Tests.{eq-eqb, ne_eqb, lt-ltb, le-ltb, ltb-false}
@@ -28,13 +29,13 @@ returns-then-s-ne8 c = rw (ne_eqb (length c.args.s.now) 8 c.if-s-ne8.true)
 
 pub returns-then-kind-gt3 : goal.returns-then-kind-gt3
 unfolding taken_of
-returns-then-kind-gt3 c = rw (eight c.before.before, lt-ltb 3 (kind c.before.before) c.if-kind-gt3.true)
+returns-then-kind-gt3 c = rw (eight c.before.before, lt-ltb 3 (kind c.before.before) (omega arith))
 
 pub returns-then-s-places : goal.returns-then-s-places
 unfolding taken_of
 returns-then-s-places c =
     let k = c in
-    simp (eight k.before.before.before.before.before.before, le-ltb 3 (kind k.before.before.before.before.before.before) c.if-kind-gt3.false, c.if-s-places.true)
+    simp (eight k.before.before.before.before.before.before, le-ltb 3 (kind k.before.before.before.before.before.before) (omega arith), c.if-s-places.true)
 
 pub record_at-requires : goal.record_at-requires
 record_at-requires c =
@@ -47,4 +48,4 @@ unfolding taken_of
 returns c =
     let x = c in
     let k = x in
-    simp (eight k.before.before.before.before.before.before.before.before.before.before.before.before, le-ltb 3 (kind k.before.before.before.before.before.before.before.before.before.before.before.before) x.if-kind-gt3.false, x.if-s-places.false) (c.record_at.ensures ∙ ap (record_at (kind k.before.before.before.before.before.before.before.before.before.before.before.before) _) c.from_low.ensures)
+    simp (eight k.before.before.before.before.before.before.before.before.before.before.before.before, le-ltb 3 (kind k.before.before.before.before.before.before.before.before.before.before.before.before) (omega arith), x.if-s-places.false) (c.record_at.ensures ∙ ap (record_at (kind k.before.before.before.before.before.before.before.before.before.before.before.before) _) c.from_low.ensures)

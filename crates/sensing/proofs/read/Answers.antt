@@ -1,10 +1,13 @@
 -- `sensing::read` meets its contract: each test picks its case, and the constants are the definition's table. Assumes nothing.
+use borrow.Author.Rules.{rules}
 use native.Mathlib.Omega.{arith}
 use mathlib.Core.Path.{◌≡◌, refl, sym, ◌∙◌}
 use mathlib.Core.Bool.{true, false}
 use Prim.Native.Nat.{◌≤◌}
 use lib.IntN.{ℤ, pos, nat_abs}
 use lib.Signed.{lt_z}
+use mir.Syntax.{w32}
+use mir.Val.{to_z, of_z}
 use mir.Facts.{to_z-of_z}
 use Rattle.exact.specs.Sign.{within}
 use Rattle.exact.specs.Exact.{Fraction}
@@ -18,30 +21,44 @@ use Rattle.sensing.proofs.read.Lts as lts
 use Rattle.sensing.proofs.read.Reads as reads
 use Rattle.sensing.proofs.read.Tie as tie
 
+abbrev Then-input-gt390481 : Type 0
+Then-input-gt390481 = lts.Then1 tie.the-claims reads.Pre reads.Post
+
+abbrev Then-input-lt18520 : Type 0
+Then-input-lt18520 = lts.Then2 tie.the-claims reads.Pre reads.Post
+
 abbrev Else-input-lt18520 : Type 0
 Else-input-lt18520 = lts.Else2 tie.the-claims reads.Pre reads.Post
 
 abbrev Else-input-gt390481 : Type 0
 Else-input-gt390481 = lts.Else1 tie.the-claims reads.Pre reads.Post
 
--- the tests, of the input and not of its bits
-over : (c : goal.Then-input-gt390481) → lt_z (pos 390481) c.args.input ≡ true
-over c = simp (to_z-of_z c.ranges.input) at c.if-input-gt390481.true
+-- the tests, of the input and not of its bits; each is found by what it says, so that one of another limit is refused here
+over : (c : Then-input-gt390481) → lt_z (pos 390481) c.args.input ≡ true
+over c =
+    let e : lt_z (pos 390481) (to_z w32 (of_z w32 c.args.input)) ≡ true = search rules in
+    simp (to_z-of_z c.ranges.input) at e
 
 pub returns-then-input-gt390481 : goal.returns-then-input-gt390481
 returns-then-input-gt390481 c = sym (read_over c.args.step c.args.input (over c))
 
 not_over : (c : Else-input-gt390481) → lt_z (pos 390481) c.args.input ≡ false
-not_over c = simp (to_z-of_z c.ranges.input) at c.if-input-gt390481.false
+not_over c =
+    let e : lt_z (pos 390481) (to_z w32 (of_z w32 c.args.input)) ≡ false = search rules in
+    simp (to_z-of_z c.ranges.input) at e
 
-under : (c : goal.Then-input-lt18520) → lt_z c.args.input (pos 18520) ≡ true
-under c = simp (to_z-of_z c.ranges.input) at c.if-input-lt18520.true
+under : (c : Then-input-lt18520) → lt_z c.args.input (pos 18520) ≡ true
+under c =
+    let e : lt_z (to_z w32 (of_z w32 c.args.input)) (pos 18520) ≡ true = search rules in
+    simp (to_z-of_z c.ranges.input) at e
 
 pub returns-then-input-lt18520 : goal.returns-then-input-lt18520
 returns-then-input-lt18520 c = sym (read_under c.args.step c.args.input (under c))
 
 not_under : (c : Else-input-lt18520) → lt_z c.args.input (pos 18520) ≡ false
-not_under c = simp (to_z-of_z c.ranges.input) at c.if-input-lt18520.false
+not_under c =
+    let e : lt_z (to_z w32 (of_z w32 c.args.input)) (pos 18520) ≡ false = search rules in
+    simp (to_z-of_z c.ranges.input) at e
 
 inside : (c : Else-input-lt18520) → within (pos 18520) (pos 390481) c.args.input ≡ true
 inside c = within_is (pos 18520) (pos 390481) c.args.input (not_over c.before) (not_under c)
