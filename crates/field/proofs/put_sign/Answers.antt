@@ -1,21 +1,35 @@
 -- `field::put_sign` meets its contract: a number below zero has one byte of sign, and any other none. Assumes nothing.
+use borrow.Author.Rules.{rules}
 use native.Mathlib.Omega.{arith}
 use mathlib.Core.Path.{◌≡◌, refl, sym, ap}
 use mathlib.Core.List.{[], ◌∷◌}
 use Prim.Native.Nat.{◌≤◌}
 use lib.ListN.{length}
+use lib.IntN.{pos}
 use lib.Seq.{drop-length}
+use lib.Signed.{lt_z}
+use mathlib.Core.Bool.{true}
+use mir.Syntax.{w32}
+use mir.Val.{to_z, of_z}
 use Rattle.exact.proofs.Z.{neg_is}
 use Rattle.field.specs.Field.{sign}
 use Rattle.field.proofs.Digits.{first_put}
 use Rattle.field.proofs.Right.{right_nil}
 use Rattle.field.proofs.put_sign.Goals as goal
+use Rattle.field.proofs.put_sign.Lts as lts
+use Rattle.field.proofs.put_sign.Reads as reads
 
-minus : (c : goal.Then-n-lt0) → sign c.args.n ≡ 45 ∷ []
+abbrev BelowZero : Type 0
+BelowZero = lts.Then1 reads.Pre reads.Post
+
+-- the test is found by what it says, so that another one is refused here
+minus : (c : BelowZero) → sign c.args.n ≡ 45 ∷ []
 unfolding sign
-minus c = rw (neg_is c.ranges.n c.if-n-lt0.true)
+minus c =
+    let e : lt_z (to_z w32 (of_z w32 c.args.n)) (pos 0) ≡ true = search rules in
+    rw (neg_is c.ranges.n e)
 
-some : (c : goal.Then-n-lt0) → 1 ≤ length c.args.buf.now
+some : (c : BelowZero) → 1 ≤ length c.args.buf.now
 some c = omega (arith, ap length (minus c))
 
 pub overflow_sub-last : goal.overflow_sub-last
