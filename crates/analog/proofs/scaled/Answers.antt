@@ -1,7 +1,9 @@
 -- `analog::scaled` meets its contract: the numbers fit, and the divisor that `floor` is given is above zero. Assumes nothing.
+use borrow.Author.Rules.{rules}
 use mathlib.Core.Path.{◌≡◌, sym, ◌∙◌}
 use mathlib.Core.Bool.{true, false}
 use lib.IntN.{pos, neg_ℤ, ◌-ℤ◌, ◌*ℤ◌}
+use lib.Signed.{lt_z}
 use mir.Syntax.{w32, w64}
 use mir.Val.{to_z, of_z}
 use mir.Facts.{to_z-of_z}
@@ -9,6 +11,15 @@ use Rattle.exact.specs.Sign.{is_neg}
 use Rattle.exact.proofs.Z.{rd, minus, neg_test, widens, widened, back64}
 use Rattle.analog.proofs.Fit.{rise, run, Fits, fit, rising, falling, floor_up, floor_down}
 use Rattle.analog.proofs.scaled.Goals as goal
+use Rattle.analog.proofs.scaled.Lts as lts
+use Rattle.analog.proofs.scaled.Reads as reads
+use Rattle.analog.proofs.scaled.Tie as tie
+
+abbrev Then-run-lt0 : Type 0
+Then-run-lt0 = lts.Then1 tie.the-claims reads.Pre reads.Post
+
+abbrev Else-run-lt0 : Type 0
+Else-run-lt0 = lts.Else1 tie.the-claims reads.Pre reads.Post
 
 of : (s : goal.Start) → Fits s.args.low s.args.high s.args.v
 of s = fit s.ranges.low s.ranges.high s.ranges.v
@@ -41,12 +52,16 @@ rise_is s = simp (widened s.ranges.v, widened s.ranges.low, to_z-of_z (of s).abo
 run_is : (s : goal.Start) → to_z w64 (of_z w64 (to_z w64 (of_z w64 (to_z w32 (of_z w32 s.args.high))) -ℤ to_z w64 (of_z w64 (to_z w32 (of_z w32 s.args.low))))) ≡ run s.args.low s.args.high
 run_is s = simp (widened s.ranges.high, widened s.ranges.low, to_z-of_z (of s).across)
 
--- which way the range runs
-falls : (c : goal.Then-run-lt0) → is_neg (run c.args.low c.args.high) ≡ true
-falls c = sym (neg_test (run c.args.low c.args.high)) ∙ (rw (run_is c.before) at c.if-run-lt0.true)
+-- which way the range runs; the test is found by what it says, so that another one is refused here
+falls : (c : Then-run-lt0) → is_neg (run c.args.low c.args.high) ≡ true
+falls c =
+    let e : lt_z (to_z w64 (of_z w64 (to_z w64 (of_z w64 (to_z w32 (of_z w32 c.args.high))) -ℤ to_z w64 (of_z w64 (to_z w32 (of_z w32 c.args.low)))))) (pos 0) ≡ true = search rules in
+    sym (neg_test (run c.args.low c.args.high)) ∙ (rw (run_is c.before) at e)
 
-rises : (c : goal.Else-run-lt0) → is_neg (run c.args.low c.args.high) ≡ false
-rises c = sym (neg_test (run c.args.low c.args.high)) ∙ (rw (run_is c.before) at c.if-run-lt0.false)
+rises : (c : Else-run-lt0) → is_neg (run c.args.low c.args.high) ≡ false
+rises c =
+    let e : lt_z (to_z w64 (of_z w64 (to_z w64 (of_z w64 (to_z w32 (of_z w32 c.args.high))) -ℤ to_z w64 (of_z w64 (to_z w32 (of_z w32 c.args.low)))))) (pos 0) ≡ false = search rules in
+    sym (neg_test (run c.args.low c.args.high)) ∙ (rw (run_is c.before) at e)
 
 pub overflow_sub-rise-then-run-lt0 : goal.overflow_sub-rise-then-run-lt0
 overflow_sub-rise-then-run-lt0 c = rw (rise_is c.before, minus (rise c.args.low c.args.v)) (of c.before).down
@@ -55,10 +70,10 @@ pub overflow_sub-run-then-run-lt0 : goal.overflow_sub-run-then-run-lt0
 overflow_sub-run-then-run-lt0 c = rw (run_is c.before, minus (run c.args.low c.args.high)) (of c.before).back
 
 -- the two numbers with their signs turned
-rise_back : (c : goal.Then-run-lt0) → to_z w64 (of_z w64 (pos 0 -ℤ rise c.args.low c.args.v)) ≡ neg_ℤ (rise c.args.low c.args.v)
+rise_back : (c : Then-run-lt0) → to_z w64 (of_z w64 (pos 0 -ℤ rise c.args.low c.args.v)) ≡ neg_ℤ (rise c.args.low c.args.v)
 rise_back c = rd (minus (rise c.args.low c.args.v)) (of c.before).down
 
-run_back : (c : goal.Then-run-lt0) → to_z w64 (of_z w64 (pos 0 -ℤ run c.args.low c.args.high)) ≡ neg_ℤ (run c.args.low c.args.high)
+run_back : (c : Then-run-lt0) → to_z w64 (of_z w64 (pos 0 -ℤ run c.args.low c.args.high)) ≡ neg_ℤ (run c.args.low c.args.high)
 run_back c = rd (minus (run c.args.low c.args.high)) (of c.before).back
 
 pub floor-requires : goal.floor-requires
