@@ -13,13 +13,15 @@ use borrow.Author.Tests.{le-leb, lt-leb, eq-eqb, ne_eqb, ltb-true, ltb-false}
 use mir.Syntax.{Width, w64}
 use mir.Val.{SFits, hbits, to_z}
 use mir.Facts.{to_z_pos}
+use Rattle.std.specs.Prelude.{Option, Some, None}
+use Rattle.std.specs.List.{position_or_len}
+use Rattle.std.proofs.lemmas.Option.{none-some, same_Some}
+use Rattle.std.proofs.lemmas.List.Recursion.{is_position_or_len}
 use Rattle.text.proofs.Truth.{never}
-use Rattle.text.specs.Line.{Used, scan, kept_in, kept_len, before}
+use Rattle.text.specs.declared.Line.{Line}
+use Rattle.text.specs.Line.{Used, scan, with_byte, before}
 use Rattle.text.specs.Number.{is_digit, digits, value, natural_of, signed, most, signed_of, number_of}
 use Rattle.text.specs.Word.{word_end}
-use Rattle.text.specs.declared.Natural.{Natural}
-use Rattle.text.specs.declared.Natural.TheVariants as natural
-use Rattle.text.specs.declared.Number.TheVariants as number
 
 -- ---- tests
 
@@ -63,45 +65,56 @@ part (suc m) (suc n) (b ∷ l) =
 
 -- ---- scan
 
-module _ (s line : List ℕ) (i len : ℕ) (h : i < length s) where
-  scan_at : scan i (drop i s) line len
+module _ (s : List ℕ) (line : Line) (i : ℕ) (h : i < length s) where
+  scan_at : scan i (drop i s) line
       ≡ cond (eqb (get_or s i 0) 10)
-      (record { step = record { used = i + 1; len = len; ended = true }; line = line })
-      (scan (i + 1) (drop (i + 1) s) (kept_in line len (get_or s i 0)) (kept_len len))
+      (record { step = record { used = i + 1; ended = true }; line = line })
+      (scan (i + 1) (drop (i + 1) s) (with_byte line (get_or s i 0)))
   unfolding scan
   scan_at = rw (drop-cons s i 0 h, add-one i)
 
   pub scan_lf : eqb (get_or s i 0) 10 ≡ true
-      → scan i (drop i s) line len ≡ record { step = record { used = i + 1; len = len; ended = true }; line = line }
+      → scan i (drop i s) line ≡ record { step = record { used = i + 1; ended = true }; line = line }
   scan_lf e = scan_at ∙ rw e
 
   pub scan_on : eqb (get_or s i 0) 10 ≡ false
-      → scan i (drop i s) line len ≡ scan (i + 1) (drop (i + 1) s) (kept_in line len (get_or s i 0)) (kept_len len)
+      → scan i (drop i s) line ≡ scan (i + 1) (drop (i + 1) s) (with_byte line (get_or s i 0))
   scan_on e = scan_at ∙ rw e
 
-pub scan_out : (s line : List ℕ) (i len : ℕ) → i ≡ length s
-    → scan i (drop i s) line len ≡ record { step = record { used = i; len = len; ended = false }; line = line }
+pub scan_out : (s : List ℕ) (line : Line) (i : ℕ) → i ≡ length s
+    → scan i (drop i s) line ≡ record { step = record { used = length s; ended = false }; line = line }
 unfolding scan
-scan_out s line i len e = ap (λ (d : List ℕ). scan i d line len) (ap (λ (n : ℕ). drop n s) e ∙ drop-length s)
+scan_out s line i e =
+    ap (λ (d : List ℕ). scan i d line) (ap (λ (n : ℕ). drop n s) e ∙ drop-length s)
+    ∙ ap (λ (n : ℕ). record { step = record { used = n; ended = false }; line = line }) e
 
 -- ---- a word
 
-module _ (s : List ℕ) (i : ℕ) (h : i < length s) where
-  word_at : word_end i s ≡ i + length (cond (eqb (get_or s i 0) 32) [] (get_or s i 0 ∷ before 32 (drop (i + 1) s)))
-  unfolding word_end before
-  word_at = rw (drop-cons s i 0 h, add-one i)
+counted : (t : Bool) (b : ℕ) (s : List ℕ) → length (cond t [] (b ∷ s)) ≡ cond t 0 (1 + length s)
+counted true b s = refl
+counted false b s = omega arith
 
-  pub word_space : get_or s i 0 ≡ 32 → word_end i s ≡ i
-  word_space e = word_at ∙ rw (eq-eqb (get_or s i 0) 32 e) (omega arith)
-
-  pub word_on : (get_or s i 0 ≡ 32 → ⊥) → word_end i s ≡ word_end (i + 1) s
-  unfolding word_end
-  word_on e = word_at ∙ rw (ne_eqb (get_or s i 0) 32 e) (omega arith)
-
-pub word_out : (s : List ℕ) (i : ℕ) → i ≡ length s → word_end i s ≡ i
+-- it ends where std finds the first space of what is left
+pub word_is : (at : ℕ) (s : List ℕ) → word_end at s ≡ at + position_or_len (λ (b : ℕ). eqb b 32) (drop at s)
 unfolding word_end before
-word_out s i e =
-    ap (λ (d : List ℕ). i + length (before 32 d)) (ap (λ (n : ℕ). drop n s) e ∙ drop-length s) ∙ omega arith
+word_is at s =
+    ap (λ (n : ℕ). at + n)
+    (is_position_or_len (λ (l : List ℕ). length (before 32 l)) (λ (b : ℕ). eqb b 32) refl (λ b l. counted (eqb b 32) b (before 32 l)) (drop at s))
+
+module _ (place count : ℕ) where
+  pub some_place : (n : ℕ) → cond (ltb place count) (Some place) None ≡ Some n → n ≡ place
+  some_place n e = at (ltb place count) e
+    where
+      at : (t : Bool) → cond t (Some place) None ≡ Some n → n ≡ place
+      at true e = sym (same_Some place n e)
+      at false e = absurd (none-some n e)
+
+  pub no_place : cond (ltb place count) (Some place) None ≡ None → count ≤ place
+  no_place e = at (ltb place count) refl e
+    where
+      at : (t : Bool) → ltb place count ≡ t → cond t (Some place) None ≡ None → count ≤ place
+      at true f e = absurd (none-some place (sym e))
+      at false f e = ltb-false place count f
 
 -- ---- digits
 
@@ -120,7 +133,7 @@ value_grows v [] = omega arith
 value_grows v (b ∷ s) = omega (arith, value_grows (v * 10 + (b - 48)) s)
 
 module _ (m : ℕ) (s : List ℕ) (i : ℕ) (ok : (ltb (length s) 1 || ltb m (length s)) ≡ false) (d : digits s ≡ digits (drop i s)) where
-  pub natural_bad : i < length s → (ltb (get_or s i 0) 48 || ltb 57 (get_or s i 0)) ≡ true → natural.Not ≡ natural_of m s
+  pub natural_bad : i < length s → (ltb (get_or s i 0) 48 || ltb 57 (get_or s i 0)) ≡ true → None ≡ natural_of m s
   unfolding natural_of
   natural_bad h e =
       let no : digits s ≡ false = d ∙ digits_at s i h ∙ rw (outside (get_or s i 0) 48 57 true e) in
@@ -128,18 +141,18 @@ module _ (m : ℕ) (s : List ℕ) (i : ℕ) (ok : (ltb (length s) 1 || ltb m (le
 
   -- one digit more would leave 64 bits
   pub natural_over : (v : ℕ) → i < length s → value 0 s ≡ value v (drop i s)
-      → 18446744073709551615 < v * 10 + (get_or s i 0 - 48) → natural.Not ≡ natural_of m s
+      → 18446744073709551615 < v * 10 + (get_or s i 0 - 48) → None ≡ natural_of m s
   unfolding natural_of
   natural_over v h w k =
       let big : 18446744073709551615 < value 0 s =
       rw (w, value_at v s i h) (omega (arith, value_grows (v * 10 + (get_or s i 0 - 48)) (drop (i + 1) s))) in
       rw (outside (length s) 1 m false ok, lt-leb (value 0 s) 18446744073709551615 big) (go (digits s))
     where
-      go : (t : Bool) → natural.Not ≡ cond (true && (t && false)) (natural.Is (value 0 s)) natural.Not
+      go : (t : Bool) → None ≡ cond (true && (t && false)) (Some (value 0 s)) None
       go true = refl
       go false = refl
 
-  pub natural_is : (v : ℕ) → i ≡ length s → value 0 s ≡ value v (drop i s) → v ≤ 18446744073709551615 → natural.Is v ≡ natural_of m s
+  pub natural_is : (v : ℕ) → i ≡ length s → value 0 s ≡ value v (drop i s) → v ≤ 18446744073709551615 → Some v ≡ natural_of m s
   unfolding natural_of digits value
   natural_is v e w h =
       let n : drop i s ≡ [] = ap (λ (n : ℕ). drop n s) e ∙ drop-length s in
@@ -147,18 +160,18 @@ module _ (m : ℕ) (s : List ℕ) (i : ℕ) (ok : (ltb (length s) 1 || ltb m (le
       let is : value 0 s ≡ v = w ∙ rw n in
       rw (outside (length s) 1 m false ok, yes, is, le-leb v 18446744073709551615 h)
 
-pub natural_out : (m : ℕ) (s : List ℕ) → (ltb (length s) 1 || ltb m (length s)) ≡ true → natural.Not ≡ natural_of m s
+pub natural_out : (m : ℕ) (s : List ℕ) → (ltb (length s) 1 || ltb m (length s)) ≡ true → None ≡ natural_of m s
 unfolding natural_of
 natural_out m s e = rw (outside (length s) 1 m true e)
 
 -- ---- the sign
 
-pub sign_is : (b neg : Bool) (v : ℕ) (z : Natural) (t : Bool) → neg ≡ b → z ≡ natural.Is v → leb v (most b) ≡ t
-    → cond t (number.Is (signed b v)) number.Not ≡ signed_of neg z
+pub sign_is : (b neg : Bool) (v : ℕ) (z : Option ℕ) (t : Bool) → neg ≡ b → z ≡ Some v → leb v (most b) ≡ t
+    → cond t (Some (signed b v)) None ≡ signed_of neg z
 unfolding signed_of
 sign_is b neg v z t p q r = rw (p, q, r)
 
-pub empty_not : (s : List ℕ) → length s < 1 → number.Not ≡ number_of s
+pub empty_not : (s : List ℕ) → length s < 1 → None ≡ number_of s
 unfolding number_of natural_of signed_of
 empty_not [] h = refl
 empty_not (b ∷ s) h = absurd (omega arith)

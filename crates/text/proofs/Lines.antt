@@ -10,7 +10,8 @@ use lib.ListN.{length, take, drop, set, length-append, length-set}
 use lib.Seq.{length-take-le, take-suc-set, drop_at, append_snoc}
 use borrow.Author.Tests.{lt-ltb, le-ltb, le-leb, lt-leb, leb-true, leb-false, ltb-true, ltb-false}
 use Rattle.text.proofs.Truth.{never}
-use Rattle.text.specs.Line.{kept_bytes, Scanned, scan, kept_in, kept_len, Heard, bytes, long, heard, kept, before, after, has, Feeds, Cut, cut_at, cut}
+use Rattle.text.specs.declared.Line.{Line}
+use Rattle.text.specs.Line.{kept_bytes, Scanned, scan, with_byte, Heard, bytes, long, heard, kept, before, after, has, Feeds, Cut, cut_at, cut}
 
 -- ---- one byte more
 
@@ -47,51 +48,50 @@ heard_full line len b e h true p =
     simp (k, le-ltb len kept_bytes h)
 heard_full line len b e h false p = refl
 
-push_heard : (line : List ℕ) (len b : ℕ) → length line ≡ kept_bytes → heard (kept_in line len b) (kept_len len) ≡ push (heard line len) b
-unfolding heard kept_in kept_len
-push_heard line len b e = go (ltb len kept_bytes) refl
+push_heard : (line : Line) (b : ℕ) → length line.room ≡ kept_bytes → heard (with_byte line b) ≡ push (heard line) b
+unfolding heard with_byte
+push_heard line b e = go (ltb line.len kept_bytes) refl
   where
-    go : (t : Bool) → ltb len kept_bytes ≡ t
-        → cond (leb (cond t (len + 1) (kept_bytes + 1)) kept_bytes) (bytes (take (cond t (len + 1) (kept_bytes + 1)) (cond t (set line len b) line))) long
-        ≡ push (cond (leb len kept_bytes) (bytes (take len line)) long) b
-    go true p = heard_room line len b e (ltb-true len kept_bytes p)
-    go false p = heard_full line len b e (ltb-false len kept_bytes p) (leb len kept_bytes) refl
+    go : (t : Bool) → ltb line.len kept_bytes ≡ t
+        → heard (cond t (record { room = set line.room line.len b; len = line.len + 1 }) (record { room = line.room; len = kept_bytes + 1 })) ≡ push (heard line) b
+    go true p = heard_room line.room line.len b e (ltb-true line.len kept_bytes p)
+    go false p = heard_full line.room line.len b e (ltb-false line.len kept_bytes p) (leb line.len kept_bytes) refl
 
--- an array and a count that stand for l stand for l and b after it
-keeps : (line : List ℕ) (len b : ℕ) (l : List ℕ) → length line ≡ kept_bytes → heard line len ≡ kept l
-    → heard (kept_in line len b) (kept_len len) ≡ kept (l ++ (b ∷ []))
-keeps line len b l e h = push_heard line len b e ∙ ap (λ (x : Heard). push x b) h ∙ push_kept l b
+-- a line that stands for l stands for l and b after it
+keeps : (line : Line) (b : ℕ) (l : List ℕ) → length line.room ≡ kept_bytes → heard line ≡ kept l → heard (with_byte line b) ≡ kept (l ++ (b ∷ []))
+keeps line b l e h = push_heard line b e ∙ ap (λ (x : Heard). push x b) h ∙ push_kept l b
 
-kept_size : (line : List ℕ) (len b : ℕ) → length (kept_in line len b) ≡ length line
-unfolding kept_in
-kept_size line len b = go (ltb len kept_bytes)
+kept_size : (line : Line) (b : ℕ) → length (with_byte line b).room ≡ length line.room
+unfolding with_byte
+kept_size line b = go (ltb line.len kept_bytes)
   where
-    go : (t : Bool) → length (cond t (set line len b) line) ≡ length line
-    go true = length-set line len b
+    go : (t : Bool)
+        → length (cond {A = Line} t (record { room = set line.room line.len b; len = line.len + 1 }) (record { room = line.room; len = kept_bytes + 1 })).room ≡ length line.room
+    go true = length-set line.room line.len b
     go false = refl
 
 -- ---- a block
 
 -- what reading s did, where i bytes p of the block were read before: the bytes before the LF, those behind it, whether it is there
 record Fed (i : ℕ) (s l head tail : List ℕ) (ended : Bool) (r : Scanned) : Type 0 where
-  line : heard r.line r.step.len ≡ kept (l ++ head)
+  line : heard r.line ≡ kept (l ++ head)
   ends : r.step.ended ≡ ended
   rest : (p : List ℕ) → length p ≡ i → drop r.step.used (p ++ s) ≡ tail
-  size : length r.line ≡ kept_bytes
+  size : length r.line.room ≡ kept_bytes
 
 snoc_length : (p : List ℕ) (b i : ℕ) → length p ≡ i → length (p ++ (b ∷ [])) ≡ i + 1
 snoc_length p b i k = length-append p (b ∷ []) ∙ ap (λ (n : ℕ). n + 1) k
 
-scan_feeds : (i : ℕ) (s line : List ℕ) (len : ℕ) (l : List ℕ) → length line ≡ kept_bytes → heard line len ≡ kept l
-    → Fed i s l (before 10 s) (after 10 s) (has 10 s) (scan i s line len)
+scan_feeds : (i : ℕ) (s : List ℕ) (line : Line) (l : List ℕ) → length line.room ≡ kept_bytes → heard line ≡ kept l
+    → Fed i s l (before 10 s) (after 10 s) (has 10 s) (scan i s line)
 unfolding scan before after has
-scan_feeds i [] line len l e h = record { line = rw (append-nil l) h; ends = refl; rest = λ p k. drop_at p [] i k; size = e }
-scan_feeds i (b ∷ s) line len l e h =
-    go (eqb b 10) (scan_feeds (i + 1) s (kept_in line len b) (kept_len len) (l ++ (b ∷ [])) (kept_size line len b ∙ e) (keeps line len b l e h))
+scan_feeds i [] line l e h = record { line = rw (append-nil l) h; ends = refl; rest = λ p k. drop_at p [] i k; size = e }
+scan_feeds i (b ∷ s) line l e h =
+    go (eqb b 10) (scan_feeds (i + 1) s (with_byte line b) (l ++ (b ∷ [])) (kept_size line b ∙ e) (keeps line b l e h))
   where
-    go : (t : Bool) → Fed (i + 1) s (l ++ (b ∷ [])) (before 10 s) (after 10 s) (has 10 s) (scan (i + 1) s (kept_in line len b) (kept_len len))
+    go : (t : Bool) → Fed (i + 1) s (l ++ (b ∷ [])) (before 10 s) (after 10 s) (has 10 s) (scan (i + 1) s (with_byte line b))
         → Fed i (b ∷ s) l (cond t [] (b ∷ before 10 s)) (cond t s (after 10 s)) (cond t true (has 10 s))
-        (cond t (record { step = record { used = i + 1; len = len; ended = true }; line = line }) (scan (i + 1) s (kept_in line len b) (kept_len len)))
+        (cond t (record { step = record { used = i + 1; ended = true }; line = line }) (scan (i + 1) s (with_byte line b)))
     go true next =
         record {
           line = rw (append-nil l) h;
@@ -107,22 +107,22 @@ scan_feeds i (b ∷ s) line len l e h =
           size = next.size;
         }
 
-pub feeds : (s line : List ℕ) (len : ℕ) (l : List ℕ) → length line ≡ kept_bytes → heard line len ≡ kept l → Feeds s l (scan 0 s line len)
-feeds s line len l e h =
-    let f = scan_feeds 0 s line len l e h in
+pub feeds : (s : List ℕ) (line : Line) (l : List ℕ) → length line.room ≡ kept_bytes → heard line ≡ kept l → Feeds s l (scan 0 s line)
+feeds s line l e h =
+    let f = scan_feeds 0 s line l e h in
     record { line = f.line; ends = f.ends; rest = f.rest [] refl; size = f.size }
 
--- the line of an array and a count that is not too long, and of one that is
-pub heard_is : (line : List ℕ) (len : ℕ) → len ≤ kept_bytes → heard line len ≡ bytes (take len line)
+-- a line that is not too long, and one that is
+pub heard_is : (line : Line) → line.len ≤ kept_bytes → heard line ≡ bytes (take line.len line.room)
 unfolding heard
-heard_is line len h = rw (le-leb len kept_bytes h)
+heard_is line h = rw (le-leb line.len kept_bytes h)
 
-pub heard_long : (line : List ℕ) (len : ℕ) → kept_bytes < len → heard line len ≡ long
+pub heard_long : (line : Line) → kept_bytes < line.len → heard line ≡ long
 unfolding heard
-heard_long line len h = rw (lt-leb len kept_bytes h)
+heard_long line h = rw (lt-leb line.len kept_bytes h)
 
--- an array with a count of 0 is a line of which nothing was read
-pub empty_kept : (line : List ℕ) → heard line 0 ≡ kept []
+-- a line of which nothing was read
+pub empty_kept : (line : List ℕ) → heard (record { room = line; len = 0 }) ≡ kept []
 unfolding heard kept
 empty_kept line = refl
 

@@ -12,11 +12,9 @@ use lib.IntN.{ℤ}
 use lib.ListN.{length, get_or, length-append}
 use lib.Signed.{mag}
 use borrow.Author.Tests.{le-leb, leb-true, ne_eqb, eqb-true}
+use Rattle.std.specs.Prelude.{Option, Some, None}
 use Rattle.text.proofs.Truth.{both}
 use Rattle.text.specs.Number.{is_digit, digits, value, natural_of, signed, most, signed_of, number_of, spelled, with_minus, Digits, Written}
-use Rattle.text.specs.declared.Natural.{Natural}
-use Rattle.text.specs.declared.Natural.TheVariants as natural
-use Rattle.text.specs.declared.Number.TheVariants as number
 
 -- so many digits are below that power of ten
 ten_more : (v i d : ℕ) → v < 10 ^ i → d ≤ 9 → v * 10 + d < 10 ^ (i + 1)
@@ -101,7 +99,7 @@ below s e =
 
 -- ---- an unsigned number
 
-pub natural_reads : (m : ℕ) (s : List ℕ) (n : ℕ) → Digits m s n → natural_of m s ≡ natural.Is n
+pub natural_reads : (m : ℕ) (s : List ℕ) (n : ℕ) → Digits m s n → natural_of m s ≡ Some n
 unfolding natural_of
 natural_reads m s n w =
     let t = spelled w.places n in
@@ -110,15 +108,15 @@ natural_reads m s n w =
     let v : value 0 s ≡ n = ap (value 0) w.text ∙ read_back w.places n w.holds in
     rw (l, le-leb 1 w.places w.some, le-leb w.places m w.few, d, v, le-leb n 18446744073709551615 w.fits)
 
-no_natural : {X : Type 0} {v : ℕ} → natural.Not ≡ natural.Is v → X
+no_natural : {X : Type 0} {v : ℕ} → None ≡ Some v → X
 no_natural e = let z : ◌≡◌ {A = ℕ} 0 1 = cc in absurd (omega arith)
 
-pub natural_only : (m : ℕ) (s : List ℕ) (n : ℕ) → natural_of m s ≡ natural.Is n → Digits m s n
+pub natural_only : (m : ℕ) (s : List ℕ) (n : ℕ) → natural_of m s ≡ Some n → Digits m s n
 unfolding natural_of
 natural_only m s n e = go (leb 1 (length s)) (leb (length s) m) (digits s) (leb (value 0 s) 18446744073709551615) refl refl refl refl e
   where
     go : (a b d f : Bool) → leb 1 (length s) ≡ a → leb (length s) m ≡ b → digits s ≡ d → leb (value 0 s) 18446744073709551615 ≡ f
-        → cond ((a && b) && (d && f)) (natural.Is (value 0 s)) natural.Not ≡ natural.Is n → Digits m s n
+        → cond ((a && b) && (d && f)) (Some (value 0 s)) None ≡ Some n → Digits m s n
     go true true true true p q r u e =
         let is : n ≡ value 0 s = cc in
         record {
@@ -152,24 +150,24 @@ unfolding number_of
 number_is true s e = refl
 number_is false s e = rw (unsigned s e)
 
-signed_is : (neg : Bool) (v : ℕ) → v ≤ most neg → signed_of neg (natural.Is v) ≡ number.Is (signed neg v)
+signed_is : (neg : Bool) (v : ℕ) → v ≤ most neg → signed_of neg (Some v) ≡ Some (signed neg v)
 unfolding signed_of
 signed_is neg v h = rw (le-leb v (most neg) h)
 
-pub reads : (s : List ℕ) (z : ℤ) → Written s z → number_of s ≡ number.Is z
+pub reads : (s : List ℕ) (z : ℤ) → Written s z → number_of s ≡ Some z
 reads s z w =
     ap number_of w.text ∙ number_is w.neg w.body (digits_of 10 w.body w.size w.spells)
     ∙ ap (signed_of w.neg) (natural_reads 10 w.body w.size w.spells)
-    ∙ signed_is w.neg w.size w.fits ∙ ap number.Is (sym w.is)
+    ∙ signed_is w.neg w.size w.fits ∙ ap Some (sym w.is)
 
-no_number : {X : Type 0} {z : ℤ} → number.Not ≡ number.Is z → X
+no_number : {X : Type 0} {z : ℤ} → None ≡ Some z → X
 no_number e = let z : ◌≡◌ {A = ℕ} 0 1 = cc in absurd (omega arith)
 
-signed_only : (neg : Bool) (s : List ℕ) (z : ℤ) (y : Natural) → natural_of 10 s ≡ y → signed_of neg y ≡ number.Is z → Written (with_minus neg s) z
+signed_only : (neg : Bool) (s : List ℕ) (z : ℤ) (y : Option ℕ) → natural_of 10 s ≡ y → signed_of neg y ≡ Some z → Written (with_minus neg s) z
 unfolding signed_of
-signed_only neg s z (natural.Is v) p e = go (leb v (most neg)) refl e
+signed_only neg s z (Some v) p e = go (leb v (most neg)) refl e
   where
-    go : (t : Bool) → leb v (most neg) ≡ t → cond t (number.Is (signed neg v)) number.Not ≡ number.Is z → Written (with_minus neg s) z
+    go : (t : Bool) → leb v (most neg) ≡ t → cond t (Some (signed neg v)) None ≡ Some z → Written (with_minus neg s) z
     go true q e =
         record {
           neg = neg;
@@ -181,14 +179,14 @@ signed_only neg s z (natural.Is v) p e = go (leb v (most neg)) refl e
           is = cc;
         }
     go false q e = no_number e
-signed_only neg s z natural.Not p e = no_number e
+signed_only neg s z None p e = no_number e
 
-pub only : (s : List ℕ) (z : ℤ) → number_of s ≡ number.Is z → Written s z
+pub only : (s : List ℕ) (z : ℤ) → number_of s ≡ Some z → Written s z
 unfolding number_of
 only [] z e = signed_only false [] z (natural_of 10 []) refl e
 only (b ∷ s) z e = go (eqb b 45) refl e
   where
-    go : (t : Bool) → eqb b 45 ≡ t → cond t (signed_of true (natural_of 10 s)) (signed_of false (natural_of 10 (b ∷ s))) ≡ number.Is z → Written (b ∷ s) z
+    go : (t : Bool) → eqb b 45 ≡ t → cond t (signed_of true (natural_of 10 s)) (signed_of false (natural_of 10 (b ∷ s))) ≡ Some z → Written (b ∷ s) z
     go true q e = subst (λ (x : ℕ). Written (x ∷ s) z) (sym (eqb-true b 45 q)) (signed_only true s z (natural_of 10 s) refl e)
     go false q e = signed_only false (b ∷ s) z (natural_of 10 (b ∷ s)) refl e
 
@@ -199,5 +197,5 @@ mag_signed true zero h = omega arith
 mag_signed true (suc v) h = omega arith
 mag_signed false v h = omega arith
 
-pub range : (s : List ℕ) (z : ℤ) → number_of s ≡ number.Is z → mag z < 2 ^ 31
+pub range : (s : List ℕ) (z : ℤ) → number_of s ≡ Some z → mag z < 2 ^ 31
 range s z e = let w = only s z e in rw w.is (mag_signed w.neg w.size w.fits)

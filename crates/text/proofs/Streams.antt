@@ -10,7 +10,8 @@ use lib.ListN.{length, take, drop}
 use lib.Seq.{drop-length, drop-drop, length-take-le}
 use borrow.Author.Tests.{eq-eqb, ne_eqb, leb-true}
 use Rattle.text.proofs.Truth.{never}
-use Rattle.text.specs.Line.{kept_bytes, Scanned, scan, Heard, bytes, long, heard, kept, before, after, has, Feeds, Cut, cut, lines, unended, all_lines, goes_on, Stands, ran, Carried, Turned, Streamed, finished}
+use Rattle.text.specs.Line.{kept_bytes, Scanned, scan, Heard, bytes, long, heard, kept, before, after, has, Feeds, Cut, cut, lines, unended, all_lines, goes_on, no_line, Stands, ran, Carried, Turned, Streamed, finished}
+use Rattle.text.specs.declared.Line.{Line}
 use Rattle.text.specs.declared.Step.{Step}
 use Rattle.text.proofs.Laws.{rest}
 use Rattle.text.proofs.Lines.{feeds, empty_kept, cut_ended, cut_open, cut_blocks, cut_behind}
@@ -30,14 +31,14 @@ abbrev size_of : Heard → ℕ
 size_of (bytes l) = length l
 size_of long = kept_bytes + 1
 
-heard_empty : (line : List ℕ) (len : ℕ) → length line ≡ kept_bytes → size_of (heard line len) ≡ 0 → len ≡ 0
+heard_empty : (line : Line) → length line.room ≡ kept_bytes → size_of (heard line) ≡ 0 → line.len ≡ 0
 unfolding heard
-heard_empty line len h e = go (leb len kept_bytes) refl e
+heard_empty line h e = go (leb line.len kept_bytes) refl e
   where
-    go : (t : Bool) → leb len kept_bytes ≡ t → size_of (cond t (bytes (take len line)) long) ≡ 0 → len ≡ 0
+    go : (t : Bool) → leb line.len kept_bytes ≡ t → size_of (cond t (bytes (take line.len line.room)) long) ≡ 0 → line.len ≡ 0
     go true p e =
-        let k : len ≤ length line = omega (arith, leb-true len kept_bytes p) in
-        sym (length-take-le len line k) ∙ e
+        let k : line.len ≤ length line.room = omega (arith, leb-true line.len kept_bytes p) in
+        sym (length-take-le line.len line.room k) ∙ e
     go false p e = absurd (omega arith)
 
 kept_empty : (l : List ℕ) → size_of (kept l) ≡ 0 → length l ≡ 0
@@ -70,25 +71,25 @@ module _ {A : Type 0} (event : A → Heard → A) where
   ran_snoc a (x ∷ d) l = ran_snoc (event a (kept x)) d l
 
   -- where the loop over a block stands: the lines that ended, and the bytes since
-  pub record Reached (block l : List ℕ) (a₀ a : A) (line : List ℕ) (len at : ℕ) : Type 0 where
+  pub record Reached (block l : List ℕ) (a₀ a : A) (line : Line) (at : ℕ) : Type 0 where
     pub done : List (List ℕ)
     pub since : List ℕ
     pub cuts : lines l block ≡ cut 10 (record { done = done; since = since }) (drop at block)
-    pub stands : Stands since line len
+    pub stands : Stands since line
     pub state : a ≡ ran event a₀ done
 
-  -- the same after whatever bytes the array and its count stood for before the block
-  abbrev pub Reaches : (block line₀ : List ℕ) (len₀ : ℕ) (a₀ a : A) (line : List ℕ) (len at : ℕ) → Type 0
-  Reaches block line₀ len₀ a₀ a line len at = (l : List ℕ) → Stands l line₀ len₀ → Reached block l a₀ a line len at
+  -- the same after whatever bytes were held for before the block
+  abbrev pub Reaches : (block : List ℕ) (line₀ : Line) (a₀ a : A) (line : Line) (at : ℕ) → Type 0
+  Reaches block line₀ a₀ a line at = (l : List ℕ) → Stands l line₀ → Reached block l a₀ a line at
 
-  pub begins : (block line : List ℕ) (len : ℕ) (a : A) → Reaches block line len a a line len 0
+  pub begins : (block : List ℕ) (line : Line) (a : A) → Reaches block line a a line 0
   unfolding ran
-  begins block line len a l h = record { done = []; since = l; cuts = refl; stands = h; state = refl }
+  begins block line a l h = record { done = []; since = l; cuts = refl; stands = h; state = refl }
 
-  pub ends : {block line₀ : List ℕ} {len₀ : ℕ} {a₀ a : A} {line : List ℕ} {len at : ℕ} → at ≡ length block
-      → Reaches block line₀ len₀ a₀ a line len at → Carried event block line₀ len₀ a₀ a line len
+  pub ends : {block : List ℕ} {line₀ : Line} {a₀ a : A} {line : Line} {at : ℕ} → at ≡ length block
+      → Reaches block line₀ a₀ a line at → Carried event block line₀ a₀ a line
   unfolding cut
-  ends {block} {line₀} {len₀} {a₀} e reached l h =
+  ends {block} {line₀} {a₀} e reached l h =
       let r = reached l h in
       let c : lines l block ≡ record { done = r.done; since = r.since } =
       r.cuts ∙ ap (λ (s : List ℕ). cut 10 (record { done = r.done; since = r.since }) s) (ap (λ (k : ℕ). drop k block) e ∙ drop-length block) in
@@ -97,9 +98,9 @@ module _ {A : Type 0} (event : A → Heard → A) where
         stands = rw c r.stands;
       }
 
-  module _ (block l : List ℕ) (a₀ a : A) (line : List ℕ) (len at : ℕ) (r : Reached block l a₀ a line len at) where
+  module _ (block l : List ℕ) (a₀ a : A) (line : Line) (at : ℕ) (r : Reached block l a₀ a line at) where
     step_on : (x : Scanned) → Feeds (drop at block) r.since x → (t : Bool) → has 10 (drop at block) ≡ t
-        → Reached block l a₀ (cond t (event a (heard x.line x.step.len)) a) x.line (cond t 0 x.step.len) (at + x.step.used)
+        → Reached block l a₀ (cond t (event a (heard x.line)) a) (record { room = x.line.room; len = cond t 0 x.line.len }) (at + x.step.used)
     unfolding cut
     step_on x f true p =
         record {
@@ -107,7 +108,7 @@ module _ {A : Type 0} (event : A → Heard → A) where
           since = [];
           cuts = r.cuts ∙ cut_ended 10 r.done r.since (drop at block) p
               ∙ ap (cut 10 (record { done = r.done ++ ((r.since ++ before 10 (drop at block)) ∷ []); since = [] })) (sym f.rest ∙ drop-drop x.step.used at block);
-          stands = record { keeps = empty_kept x.line; size = f.size };
+          stands = record { keeps = empty_kept x.line.room; size = f.size };
           state = ap (event a) f.line ∙ ap (λ (n : A). event n (kept (r.since ++ before 10 (drop at block)))) r.state
               ∙ sym (ran_snoc a₀ r.done (r.since ++ before 10 (drop at block)));
         }
@@ -122,41 +123,41 @@ module _ {A : Type 0} (event : A → Heard → A) where
           state = r.state;
         }
 
-  module _ {block line₀ : List ℕ} {len₀ : ℕ} {a₀ a a' : A} {line line' : List ℕ} {len len' at : ℕ} {f : Step}
-      (reached : Reaches block line₀ len₀ a₀ a line len at)
-      (p : f ≡ (scan 0 (take (length block - at) (drop at block)) line len).step)
-      (q : line' ≡ (scan 0 (take (length block - at) (drop at block)) line len).line) where
-    turned : (t : Bool) → f.ended ≡ t → len' ≡ cond t 0 f.len → a' ≡ cond t (event a (heard line' f.len)) a → Reaches block line₀ len₀ a₀ a' line' len' (at + f.used)
+  module _ {block : List ℕ} {line₀ : Line} {a₀ a a' : A} {line fed line' : Line} {at : ℕ} {f : Step}
+      (reached : Reaches block line₀ a₀ a line at)
+      (p : f ≡ (scan 0 (take (length block - at) (drop at block)) line).step)
+      (q : fed ≡ (scan 0 (take (length block - at) (drop at block)) line).line) where
+    turned : (t : Bool) → f.ended ≡ t → line' ≡ record { room = fed.room; len = cond t 0 fed.len } → a' ≡ cond t (event a (heard fed)) a → Reaches block line₀ a₀ a' line' (at + f.used)
     turned t e u v l h =
         let r = reached l h in
-        let x = scan 0 (drop at block) line len in
-        let g = feeds (drop at block) line len r.since r.stands.size r.stands.keeps in
+        let x = scan 0 (drop at block) line in
+        let g = feeds (drop at block) line r.since r.stands.size r.stands.keeps in
         let w : x.step.ended ≡ t = rw (p, rest at block) at e in
-        rw (u, v, p, q, rest at block) (step_on block l a₀ a line len at r x g t (sym g.ends ∙ w))
+        rw (u, v, p, q, rest at block) (step_on block l a₀ a line at r x g t (sym g.ends ∙ w))
 
     -- one turn, in which a line is fed: where it ended there is its event, and the next one begins
-    pub turn_ended : f.ended ≡ true → len' ≡ 0 → a' ≡ event a (heard line' f.len) → Reaches block line₀ len₀ a₀ a' line' len' (at + f.used)
+    pub turn_ended : f.ended ≡ true → line' ≡ record { room = fed.room; len = 0 } → a' ≡ event a (heard fed) → Reaches block line₀ a₀ a' line' (at + f.used)
     turn_ended = turned true
 
     -- and where it did not it is read on
-    pub turn_open : f.ended ≡ false → len' ≡ f.len → a' ≡ a → Reaches block line₀ len₀ a₀ a' line' len' (at + f.used)
+    pub turn_open : f.ended ≡ false → line' ≡ fed → a' ≡ a → Reaches block line₀ a₀ a' line' (at + f.used)
     turn_open = turned false
 
   -- the last line, and none
-  pub last_none : (a : A) (line : List ℕ) (len : ℕ) → len ≡ 0 → a ≡ finished event a line len
+  pub last_none : (a : A) (line : Line) → line.len ≡ 0 → a ≡ finished event a line
   unfolding finished
-  last_none a line len e = rw (eq-eqb len 0 e)
+  last_none a line e = rw (eq-eqb line.len 0 e)
 
-  pub last_line : (a : A) (line : List ℕ) (len : ℕ) → (len ≡ 0 → ⊥) → event a (heard line len) ≡ finished event a line len
+  pub last_line : (a : A) (line : Line) → (line.len ≡ 0 → ⊥) → event a (heard line) ≡ finished event a line
   unfolding finished
-  last_line a line len e = rw (ne_eqb len 0 e)
+  last_line a line e = rw (ne_eqb line.len 0 e)
 
   -- two blocks one after the other do what the one block of both does: where a stream is cut makes no difference
-  pub joined : {s t line line' line'' : List ℕ} {len len' len'' : ℕ} {a b c : A}
-      → Carried event s line len a b line' len'
-      → Carried event t line' len' b c line'' len''
-      → Carried event (s ++ t) line len a c line'' len''
-  joined {s} {t} {line} {line'} {line''} {len} {len'} {len''} {a} first second l h =
+  pub joined : {s t : List ℕ} {line line' line'' : Line} {a b c : A}
+      → Carried event s line a b line'
+      → Carried event t line' b c line''
+      → Carried event (s ++ t) line a c line''
+  joined {s} {t} {line} {line'} {line''} {a} first second l h =
       let r = first l h in
       let q = second (lines l s).since r.stands in
       let e : lines l (s ++ t) ≡ record { done = (lines l s).done ++ (lines (lines l s).since t).done; since = (lines (lines l s).since t).since } =
@@ -168,34 +169,34 @@ module _ {A : Type 0} (event : A → Heard → A) where
       }
 
   -- a read that gave nothing
-  pub none_came : (block line : List ℕ) (n len : ℕ) (a : A) → n ≡ 0 → Carried event (take n block) line len a a line len
-  none_came block line n len a e = rw e (ends refl (begins [] line len a))
+  pub none_came : (block : List ℕ) (line : Line) (n : ℕ) (a : A) → n ≡ 0 → Carried event (take n block) line a a line
+  none_came block line n a e = rw e (ends refl (begins [] line a))
 
   -- reads one after another
-  pub no_reads : (line : List ℕ) (len : ℕ) (a : A) → Streamed event line len a a line len
-  no_reads line len a = record { stream = []; carries = none_came [] line 0 len a refl }
+  pub no_reads : (line : Line) (a : A) → Streamed event line a a line
+  no_reads line a = record { stream = []; carries = none_came [] line 0 a refl }
 
-  pub reads_on : {block line line' line'' : List ℕ} {len len' len'' : ℕ} {a b c : A}
-      → Streamed event line len a b line' len'
-      → Turned event block line' len' b c line'' len''
-      → Streamed event line len a c line'' len''
+  pub reads_on : {block : List ℕ} {line line' line'' : Line} {a b c : A}
+      → Streamed event line a b line'
+      → Turned event block line' b c line''
+      → Streamed event line a c line''
   reads_on {block} s t = record { stream = s.stream ++ take t.count block; carries = joined s.carries t.carries }
 
   -- the line that is open at the end
-  last_one : (a : A) (l line : List ℕ) (len : ℕ) → Stands l line len → finished event a line len ≡ ran event a (unended l)
+  last_one : (a : A) (l : List ℕ) (line : Line) → Stands l line → finished event a line ≡ ran event a (unended l)
   unfolding ran heard kept
-  last_one a [] line len h = sym (last_none a line len (heard_empty line len h.size (ap size_of h.keeps)))
-  last_one a (b ∷ s) line len h = sym (last_line a line len some) ∙ ap (event a) h.keeps
+  last_one a [] line h = sym (last_none a line (heard_empty line h.size (ap size_of h.keeps)))
+  last_one a (b ∷ s) line h = sym (last_line a line some) ∙ ap (event a) h.keeps
     where
-      some : len ≡ 0 → ⊥
-      some z = omega (arith, kept_empty (b ∷ s) (ap size_of (sym h.keeps ∙ ap (heard line) z)))
+      some : line.len ≡ 0 → ⊥
+      some z = omega (arith, kept_empty (b ∷ s) (ap size_of (sym h.keeps ∙ ap (λ (n : ℕ). heard (record { room = line.room; len = n })) z)))
 
   -- from an empty line to the end: the state is that of every line of the stream
-  pub whole : {line line' : List ℕ} {len' : ℕ} {a b : A} → length line ≡ kept_bytes
-      → (s : Streamed event line 0 a b line' len') → finished event b line' len' ≡ ran event a (all_lines s.stream)
+  pub whole : {line' : Line} {a b : A}
+      → (s : Streamed event no_line a b line') → finished event b line' ≡ ran event a (all_lines s.stream)
   unfolding all_lines
-  whole {line} {line'} {len'} {a} {b} h s =
-      let r = s.carries [] (record { keeps = empty_kept line; size = h }) in
-      last_one b (lines [] s.stream).since line' len' r.stands
+  whole {line'} {a} {b} s =
+      let r = s.carries [] (record { keeps = empty_kept no_line.room; size = refl }) in
+      last_one b (lines [] s.stream).since line' r.stands
       ∙ ap (λ (x : A). ran event x (unended (lines [] s.stream).since)) r.state
       ∙ sym (ran_append a (lines [] s.stream).done (unended (lines [] s.stream).since))

@@ -8,7 +8,7 @@ use lib.Dec.{leb}
 use lib.ListN.{length, take, drop, length-append}
 use lib.Seq.{take_at, drop-drop, length-take-le}
 use borrow.Author.Tests.{le-leb, lt-leb}
-use Rattle.text.specs.Output.{Waiting, waiting, place_for, laid, put_in, waits, sent, puts}
+use Rattle.text.specs.Output.{Waiting, place_for, laid, put_in, waits, sent, puts}
 
 pub behind : (size count n : ℕ) → count + n ≤ size → count ≡ place_for size count n
 behind size count n h = rw (le-leb (count + n) size h)
@@ -26,10 +26,12 @@ copied l s ys a e =
     let k : a + length s - a ≡ length s = omega arith in
     rw (e, k, drop-drop (length s) a l)
 
-pub put_is : (l s ys : List ℕ) (count a : ℕ) → length s ≤ length l → a ≡ place_for (length l) count (length s) → ys ≡ s
-    → waiting (a + length s) (take a l ++ (ys ++ drop (a + length s - a) (drop a l))) ≡ put_in (waiting count l) s
+pub put_is : (w : Waiting) (l s ys : List ℕ) (a : ℕ) → length s ≤ length w.bytes → l ≡ w.bytes → a ≡ place_for (length w.bytes) w.count (length s) → ys ≡ s
+    → record { count = a + length s; bytes = take a l ++ (ys ++ drop (a + length s - a) (drop a l)) } ≡ put_in w s
 unfolding put_in
-put_is l s ys count a h p e = rw (le-leb (length s) (length l) h, ← p) (ap (waiting (a + length s)) (copied l s ys a e))
+put_is w l s ys a h k p e =
+    rw (le-leb (length s) (length w.bytes) h, ← p)
+    (ap (λ (r : List ℕ). record { count = a + length s; bytes = r }) (copied l s ys a e ∙ ap (λ (r : List ℕ). laid r a s) k))
 
 -- pieces, and then further pieces
 pub puts_append : (w : Waiting) (a b : List (List ℕ)) → puts (puts w a) b ≡ puts w (a ++ b)

@@ -1,5 +1,6 @@
 -- A stream of bytes cut at a separator, and its lines, of which only so many bytes are kept.
-use Rattle.std.specs.Prelude.{ℕ, ◌+◌, ◌≤◌, ◌<◌, ◌≡◌, List, [], ◌∷◌, ◌++◌, Bool, true, false, cond, not, ◌&&◌, length, take, drop, set, leb, ltb, eqb}
+use Rattle.std.specs.Prelude.{ℕ, ◌+◌, ◌≤◌, ◌<◌, ◌≡◌, List, [], ◌∷◌, ◌++◌, Bool, true, false, cond, not, ◌&&◌, length, take, drop, set, leb, ltb, eqb, replicate}
+use Rattle.text.specs.declared.Line.{Line}
 use Rattle.text.specs.declared.Step.{Step}
 
 -- the most bytes of a line that are kept
@@ -8,25 +9,27 @@ kept_bytes = 1024
 
 -- ---- what the code does, to the byte
 
--- the array and the count after one byte more
-unfoldable pub kept_in : List ℕ → ℕ → ℕ → List ℕ
-kept_in line len b = cond (ltb len kept_bytes) (set line len b) line
+-- a line of which nothing has come
+abbrev pub no_line : Line
+no_line = record { room = replicate kept_bytes 0; len = 0 }
 
-unfoldable pub kept_len : ℕ → ℕ
-kept_len len = cond (ltb len kept_bytes) (len + 1) (kept_bytes + 1)
+-- a line after one byte more
+unfoldable pub with_byte : Line → ℕ → Line
+with_byte line b =
+    cond (ltb line.len kept_bytes)
+    (record { room = set line.room line.len b; len = line.len + 1 })
+    (record { room = line.room; len = kept_bytes + 1 })
 
--- what reading a block did, and the array after it
+-- what reading a block did, and the line after it
 pub record Scanned : Type 0 where
   pub step : Step
-  pub line : List ℕ
+  pub line : Line
 
 -- a block is read up to its first LF, or to its end; i bytes of it were read before
-unfoldable pub scan : ℕ → List ℕ → List ℕ → ℕ → Scanned
-scan i [] line len = record { step = record { used = i; len = len; ended = false }; line = line }
-scan i (b ∷ s) line len =
-    cond (eqb b 10)
-    (record { step = record { used = i + 1; len = len; ended = true }; line = line })
-    (scan (i + 1) s (kept_in line len b) (kept_len len))
+unfoldable pub scan : ℕ → List ℕ → Line → Scanned
+scan i [] line = record { step = record { used = i; ended = false }; line = line }
+scan i (b ∷ s) line =
+    cond (eqb b 10) (record { step = record { used = i + 1; ended = true }; line = line }) (scan (i + 1) s (with_byte line b))
 
 -- a block that is not empty is read on
 pub record Used (used size : ℕ) : Type 0 where
@@ -40,9 +43,9 @@ pub data Heard : Type 0 where
   bytes : List ℕ → Heard
   long : Heard
 
--- what an array and a count stand for
-unfoldable pub heard : List ℕ → ℕ → Heard
-heard line len = cond (leb len kept_bytes) (bytes (take len line)) long
+-- what a line's room and its length stand for
+unfoldable pub heard : Line → Heard
+heard line = cond (leb line.len kept_bytes) (bytes (take line.len line.room)) long
 
 -- what is kept of a line
 unfoldable pub kept : List ℕ → Heard
@@ -63,10 +66,10 @@ has x (b ∷ s) = cond (eqb b x) true (has x s)
 
 -- what `scan` does to a line of which the bytes l were read before
 pub record Feeds (s l : List ℕ) (r : Scanned) : Type 0 where
-  pub line : heard r.line r.step.len ≡ kept (l ++ before 10 s)
+  pub line : heard r.line ≡ kept (l ++ before 10 s)
   pub ends : r.step.ended ≡ has 10 s
   pub rest : drop r.step.used s ≡ after 10 s
-  pub size : length r.line ≡ kept_bytes
+  pub size : length r.line.room ≡ kept_bytes
 
 -- ---- streams
 
@@ -100,10 +103,10 @@ all_lines stream = (lines [] stream).done ++ unended (lines [] stream).since
 abbrev pub goes_on : ℕ → Bool → Bool
 goes_on came ok = not (eqb came 0) && ok
 
--- an array and a count stand for the bytes l of a line
-pub record Stands (l line : List ℕ) (len : ℕ) : Type 0 where
-  pub keeps : heard line len ≡ kept l
-  pub size : length line ≡ kept_bytes
+-- what is held stands for the bytes l of a line
+pub record Stands (l : List ℕ) (line : Line) : Type 0 where
+  pub keeps : heard line ≡ kept l
+  pub size : length line.room ≡ kept_bytes
 
 module _ {A : Type 0} (event : A → Heard → A) where
   -- a program's state after lines, one event each
@@ -111,26 +114,26 @@ module _ {A : Type 0} (event : A → Heard → A) where
   ran a [] = a
   ran a (l ∷ ls) = ran (event a (kept l)) ls
 
-  -- a block after the bytes l of a line: the state is that of the lines which ended, and the array and its count stand for the bytes since
-  pub record Ran (block l : List ℕ) (a a' : A) (line : List ℕ) (len : ℕ) : Type 0 where
+  -- a block after the bytes l of a line: the state is that of the lines which ended, and what is held stands for the bytes since
+  pub record Ran (block l : List ℕ) (a a' : A) (line : Line) : Type 0 where
     pub state : a' ≡ ran a (lines l block).done
-    pub stands : Stands (lines l block).since line len
+    pub stands : Stands (lines l block).since line
 
-  -- the same after whatever bytes the array and its count stood for
-  abbrev pub Carried : (block line : List ℕ) (len : ℕ) (a a' : A) (line' : List ℕ) (len' : ℕ) → Type 0
-  Carried block line len a a' line' len' = (l : List ℕ) → Stands l line len → Ran block l a a' line' len'
+  -- the same after whatever bytes it stood for before
+  abbrev pub Carried : (block : List ℕ) (line : Line) (a a' : A) (line' : Line) → Type 0
+  Carried block line a a' line' = (l : List ℕ) → Stands l line → Ran block l a a' line'
 
   -- one read: the block's first bytes, as many as came
-  pub record Turned (block line : List ℕ) (len : ℕ) (a a' : A) (line' : List ℕ) (len' : ℕ) : Type 0 where
+  pub record Turned (block : List ℕ) (line : Line) (a a' : A) (line' : Line) : Type 0 where
     pub count : ℕ
     pub within : count ≤ length block
-    pub carries : Carried (take count block) line len a a' line' len'
+    pub carries : Carried (take count block) line a a' line'
 
   -- any number of reads: the bytes that came, one block after another
-  pub record Streamed (line : List ℕ) (len : ℕ) (a a' : A) (line' : List ℕ) (len' : ℕ) : Type 0 where
+  pub record Streamed (line : Line) (a a' : A) (line' : Line) : Type 0 where
     pub stream : List ℕ
-    pub carries : Carried stream line len a a' line' len'
+    pub carries : Carried stream line a a' line'
 
   -- at the stream's end: a last line that no LF ends counts, where it has a byte
-  unfoldable pub finished : A → List ℕ → ℕ → A
-  finished a line len = cond (eqb len 0) a (event a (heard line len))
+  unfoldable pub finished : A → Line → A
+  finished a line = cond (eqb line.len 0) a (event a (heard line))

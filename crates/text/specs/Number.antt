@@ -1,11 +1,5 @@
 -- Numbers in a line: signed ones of 32 bits, unsigned ones of 64, and a yes or no.
-use Rattle.std.specs.Prelude.{ℕ, zero, suc, ◌+◌, ◌-◌, ◌*◌, ◌/◌, ◌%◌, ◌^◌, ◌≤◌, ◌<◌, ◌≡◌, List, [], ◌∷◌, ◌++◌, Bool, true, false, cond, ◌&&◌, length, drop, get_or, leb, eqb, ℤ, pos, neg_ℤ}
-use Rattle.text.specs.declared.Natural.{Natural}
-use Rattle.text.specs.declared.Number.{Number}
-use Rattle.text.specs.declared.Flag.{Flag}
-use Rattle.text.specs.declared.Natural.TheVariants as natural
-use Rattle.text.specs.declared.Number.TheVariants as number
-use Rattle.text.specs.declared.Flag.TheVariants as flag
+use Rattle.std.specs.Prelude.{ℕ, zero, suc, ◌+◌, ◌-◌, ◌*◌, ◌/◌, ◌%◌, ◌^◌, ◌≤◌, ◌<◌, ◌≡◌, List, [], ◌∷◌, ◌++◌, Bool, true, false, cond, ◌&&◌, length, drop, get_or, leb, eqb, ℤ, pos, neg_ℤ, Option, Some, None}
 
 -- a byte `0` to `9`
 abbrev pub is_digit : ℕ → Bool
@@ -21,9 +15,9 @@ value v [] = v
 value v (b ∷ s) = value (v * 10 + (b - 48)) s
 
 -- 1 to so many digits, whose value is below 2^64
-unfoldable pub natural_of : ℕ → List ℕ → Natural
+unfoldable pub natural_of : ℕ → List ℕ → Option ℕ
 natural_of most s =
-    cond ((leb 1 (length s) && leb (length s) most) && (digits s && leb (value 0 s) 18446744073709551615)) (natural.Is (value 0 s)) natural.Not
+    cond ((leb 1 (length s) && leb (length s) most) && (digits s && leb (value 0 s) 18446744073709551615)) (Some (value 0 s)) None
 
 -- m or −m
 abbrev pub signed : Bool → ℕ → ℤ
@@ -35,20 +29,20 @@ abbrev pub most : Bool → ℕ
 most true = 2147483648
 most false = 2147483647
 
-unfoldable pub signed_of : Bool → Natural → Number
-signed_of neg (natural.Is v) = cond (leb v (most neg)) (number.Is (signed neg v)) number.Not
-signed_of neg natural.Not = number.Not
+unfoldable pub signed_of : Bool → Option ℕ → Option ℤ
+signed_of neg (Some v) = cond (leb v (most neg)) (Some (signed neg v)) None
+signed_of neg None = None
 
 -- an optional minus and 1 to 10 digits
-unfoldable pub number_of : List ℕ → Number
+unfoldable pub number_of : List ℕ → Option ℤ
 number_of s = cond (eqb (get_or s 0 0) 45) (signed_of true (natural_of 10 (drop 1 s))) (signed_of false (natural_of 10 s))
 
 -- the one byte `0` or `1`
-unfoldable pub flag_of : List ℕ → Flag
+unfoldable pub flag_of : List ℕ → Option Bool
 flag_of s =
     cond (eqb (length s) 1)
-    (cond (eqb (get_or s 0 0) 48) (flag.Is false) (cond (eqb (get_or s 0 0) 49) (flag.Is true) flag.Not))
-    flag.Not
+    (cond (eqb (get_or s 0 0) 48) (Some false) (cond (eqb (get_or s 0 0) 49) (Some true) None))
+    None
 
 -- ---- what it is to be written as a number
 

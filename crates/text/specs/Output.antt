@@ -1,13 +1,18 @@
 -- Bytes that wait in a buffer to be written.
-use Rattle.std.specs.Prelude.{ℕ, ◌+◌, cond, List, [], ◌∷◌, ◌++◌, length, take, drop, leb}
+use Rattle.std.specs.Prelude.{ℕ, ◌+◌, cond, List, [], ◌∷◌, ◌++◌, length, take, drop, leb, replicate}
+use Rattle.text.specs.declared.output.Out.{Out}
 
 -- a buffer, of which so many bytes wait
 pub record Waiting : Type 0 where
   pub count : ℕ
   pub bytes : List ℕ
 
-abbrev pub waiting : ℕ → List ℕ → Waiting
-waiting n l = record { count = n; bytes = l }
+abbrev pub waiting : Out → Waiting
+waiting out = record { count = out.count; bytes = out.bytes }
+
+-- where a program begins
+abbrev pub nothing_waits : Waiting
+nothing_waits = record { count = 0; bytes = replicate 65536 0 }
 
 -- where n bytes go in a buffer of a size: behind those that wait, or at the start, once these are written, where they have no room there
 abbrev pub place_for : ℕ → ℕ → ℕ → ℕ
@@ -21,7 +26,10 @@ laid l place s = take place l ++ (s ++ drop (place + length s) l)
 unfoldable pub put_in : Waiting → List ℕ → Waiting
 put_in w s =
     cond (leb (length s) (length w.bytes))
-    (waiting (place_for (length w.bytes) w.count (length s) + length s) (laid w.bytes (place_for (length w.bytes) w.count (length s)) s))
+    (record {
+      count = place_for (length w.bytes) w.count (length s) + length s;
+      bytes = laid w.bytes (place_for (length w.bytes) w.count (length s)) s;
+    })
     w
 
 -- the bytes that wait, and what is written of them to make room for s

@@ -1,88 +1,94 @@
 // Text that comes in blocks: cut into lines without a heap, a line into words, and numbers read exactly.
-//
-// A line that is being read is an array of `KEPT` bytes that the caller lends, and a count. With the count at most `KEPT` the line is
-// that many bytes of the array, and any greater count is the one state "too long". So every pair of them means something, and no
-// condition has to travel with it.
 #![tactic(auto)]
 
 pub mod output;
+pub mod stream;
 
-ghost use Rattle.std.specs.Prelude.{◌≡◌, ◌≤◌, length};
-ghost use Rattle.text.specs.Line.{Used, scan, kept_in, kept_len};
+ghost use Rattle.std.specs.Prelude.{◌≡◌, ◌≤◌, length, MatchOption};
+ghost use Rattle.text.specs.Line.{Used, bytes, heard, long, no_line, scan, with_byte};
 ghost use Rattle.text.specs.Number.{natural_of, signed_of, number_of, flag_of};
 ghost use Rattle.text.specs.Word.{word_end};
 
 // The most bytes of a line that are kept. The longest line that a program here can take, a configuration of `replay` with every number
 // at its widest, has 739.
-pub const KEPT: usize = 1024;
+const KEPT: usize = 1024;
 
-// What feeding a block did: how many of its bytes it used, the line's count, and whether the line ended there. The LF is used, and
-// is no part of the line.
+// A line that is being read. With a length of at most `KEPT` it is that many bytes of the room, and any greater length is the one state
+// "too long". So every pair of them means something, and no condition has to travel with it.
+#[derive(Drop)]
+pub struct Line {
+    room: [u8; KEPT],
+    len: usize,
+}
+
+// What feeding a block did: how many of its bytes it used, and whether the line ended there. The LF is used, and is no part of the line.
 #[derive(Clone, Copy)]
 pub struct Step {
     pub used: usize,
-    pub len: usize,
     pub ended: bool,
 }
 
-// An unsigned number of 64 bits, where the bytes are one.
-#[derive(Clone, Copy)]
-pub enum Natural {
-    Is(u64),
-    Not,
-}
-
-// A signed number of 32 bits, where the bytes are one.
-#[derive(Clone, Copy)]
-pub enum Number {
-    Is(i32),
-    Not,
-}
-
-// A yes or no, where the bytes are one.
-#[derive(Clone, Copy)]
-pub enum Flag {
-    Is(bool),
-    Not,
-}
-
-// One byte more of a line: the array keeps it while there is room. Answers the count.
-#[tactic(auto, unfolding(crate::specs::Line::kept_in, crate::specs::Line::kept_len))]
-fn keep(line: &mut [u8; KEPT], len: usize, b: u8) -> usize
-    ensures { (result ≡ kept_len len) × (line.new ≡ kept_in line.old len b) }
-{
-    if len < KEPT {
-        line[len] = b;
-        len + 1
-    } else {
-        KEPT + 1
-    }
-}
-
-// Reads s up to its first LF, or to its end, on to the line.
-pub fn feed(line: &mut [u8; KEPT], len: usize, s: &[u8]) -> Step
-    ensures value { result ≡ (scan 0 s.now line.old len).step }
-    ensures line_after { line.new ≡ (scan 0 s.now line.old len).line }
-    ensures used { Used result.used (length s.now) }
-{
-    let mut at = len;
-    let mut i = 0;
-    while i < s.len() {
-        let b = s[i];
-        i += 1;
-        if b == 10 {
-            return Step {
-                used: i,
-                len: at,
-                ended: true,
-            };
+impl Line {
+    // Nothing has come.
+    pub fn new() -> Line
+        ensures { result ≡ no_line }
+    {
+        Line {
+            room: [0; KEPT],
+            len: 0,
         }
-        at = keep(&mut *line, at, b);
     }
-    Step {
-        used: i,
-        len: at,
-        ended: false,
+
+    // One byte more: it is kept while there is room.
+    #[tactic(auto, unfolding(crate::specs::Line::with_byte))]
+    fn push(&mut self, b: u8)
+        ensures { self.new ≡ with_byte self.old b }
+    {
+        if self.len < KEPT {
+            self.room[self.len] = b;
+            self.len += 1;
+        } else {
+            self.len = KEPT + 1;
+        }
+    }
+
+    // Reads s up to its first LF, or to its end, on to the line.
+    pub fn feed(&mut self, s: &[u8]) -> Step
+        ensures value { result ≡ (scan 0 s.now self.old).step }
+        ensures line_after { self.new ≡ (scan 0 s.now self.old).line }
+        ensures used { Used result.used (length s.now) }
+    {
+        for (i, b) in s.iter().enumerate() {
+            if *b == b'\n' {
+                return Step {
+                    used: i + 1,
+                    ended: true,
+                };
+            }
+            self.push(*b);
+        }
+        Step {
+            used: s.len(),
+            ended: false,
+        }
+    }
+
+    // The next line begins.
+    fn clear(&mut self)
+        ensures { self.new ≡ record { room = self.old.room; len = 0 } }
+    {
+        self.len = 0;
+    }
+
+    // The bytes of the line, if they are not more than are kept.
+    pub fn text(&self) -> Option<&[u8]>
+        ensures { MatchOption result (heard self.now ≡ long) (λ s. heard self.now ≡ bytes s.now) }
+    {
+        if self.len <= KEPT {
+            Some(&self.room[..self.len])
+        } else {
+            None
+        }
     }
 }
 
@@ -92,97 +98,75 @@ pub fn word_end(s: &[u8], at: usize) -> usize
     ensures value { result ≡ word_end at s.now }
     ensures within { (at ≤ result) × (result ≤ length s.now) }
 {
-    let mut i = at;
-    while i < s.len() {
-        if s[i] == 32 {
-            return i;
-        }
-        i += 1;
+    match s[at..].iter().position(|b| *b == b' ') {
+        Some(n) => at + n,
+        None => s.len(),
     }
-    i
-}
-
-fn wide(b: u8) -> u64
-    ensures { result ≡ b }
-{
-    b as u64
 }
 
 // An unsigned number: 1 to so many digits, in 64 bits.
-pub fn read_natural(most: usize, s: &[u8]) -> Natural
+pub fn read_natural(most: usize, s: &[u8]) -> Option<u64>
     ensures { result ≡ natural_of most s.now }
 {
     if (s.len() < 1) | (most < s.len()) {
-        return Natural::Not;
+        return None;
     }
     let mut v: u64 = 0;
-    let mut i = 0;
-    while i < s.len() {
-        let b = s[i];
-        if (b < 48) | (57 < b) {
-            return Natural::Not;
+    for b in s {
+        if (*b < b'0') | (b'9' < *b) {
+            return None;
         }
-        let d = wide(b - 48);
-        if (u64::MAX - d) / 10 < v {
-            return Natural::Not;
-        }
-        v = v * 10 + d;
-        i += 1;
+        v = v.checked_mul(10)?.checked_add(u64::from(*b - b'0'))?;
     }
-    Natural::Is(v)
+    Some(v)
 }
 
+// A size of at most 64 bits with its sign, in signed 32 bits.
 #[tactic(auto, unfolding(crate::specs::Number::signed_of))]
-fn with_sign(neg: bool, z: Natural) -> Number
-    ensures { result ≡ signed_of neg z }
+fn with_sign(neg: bool, size: u64) -> Option<i32>
+    ensures { result ≡ signed_of neg (Some size) }
 {
-    match z {
-        Natural::Is(v) => {
-            if neg {
-                if v <= 2147483648 {
-                    let w = v as i64;
-                    Number::Is((0 - w) as i32)
-                } else {
-                    Number::Not
-                }
-            } else {
-                if v <= 2147483647 {
-                    Number::Is(v as i32)
-                } else {
-                    Number::Not
-                }
-            }
+    if neg {
+        if size <= 2147483648 {
+            Some((0 - size as i64) as i32)
+        } else {
+            None
         }
-        Natural::Not => Number::Not,
+    } else {
+        if size <= 2147483647 {
+            Some(size as i32)
+        } else {
+            None
+        }
     }
 }
 
 // A number: an optional minus and 1 to 10 digits, in signed 32 bits.
-pub fn read_number(s: &[u8]) -> Number
+pub fn read_number(s: &[u8]) -> Option<i32>
     ensures { result ≡ number_of s.now }
 {
     if s.len() < 1 {
-        return Number::Not;
+        return None;
     }
     if s[0] == b'-' {
-        with_sign(true, read_natural(10, &s[1..]))
+        with_sign(true, read_natural(10, &s[1..])?)
     } else {
-        with_sign(false, read_natural(10, s))
+        with_sign(false, read_natural(10, s)?)
     }
 }
 
 // A yes or no: the one byte `1` or `0`.
 #[tactic(auto, unfolding(crate::specs::Number::flag_of))]
-pub fn read_flag(s: &[u8]) -> Flag
+pub fn read_flag(s: &[u8]) -> Option<bool>
     ensures { result ≡ flag_of s.now }
 {
     if s.len() == 1 {
         match s[0] {
-            b'0' => Flag::Is(false),
-            b'1' => Flag::Is(true),
-            _ => Flag::Not,
+            b'0' => Some(false),
+            b'1' => Some(true),
+            _ => None,
         }
     } else {
-        Flag::Not
+        None
     }
 }
