@@ -1,11 +1,8 @@
 -- What `scaled` computes with fits 64 bits, for any three numbers of 32 bits, and its quotient is `floor_by`. Assumes nothing.
 use mathlib.Core.Path.{◌≡◌, refl, sym}
 use mathlib.Core.Bool.{true, false}
-use Prim.Native.Nat.{◌≤◌}
 use native.Mathlib.Omega.{arith}
 use lib.IntN.{ℤ, pos, negsuc, neg_ℤ, nat_abs, ◌-ℤ◌, ◌*ℤ◌}
-use lib.Signed.{lt_z}
-use borrow.Author.Tests.{ltb-false}
 use mir.Syntax.{w32, w64}
 use mir.Val.{SFits}
 use Rattle.exact.specs.Sign.{is_neg, eq_z}
@@ -61,8 +58,3 @@ pub floor_down : (n d : ℤ) → is_neg d ≡ true → floor (neg_ℤ n) (nat_ab
 unfolding floor_by
 floor_down n (pos d) e = never e
 floor_down n (negsuc d) e = refl
-
--- a number that is neither below 0 nor above 4,095
-pub held_abs : (z : ℤ) → lt_z z (pos 0) ≡ false → lt_z (pos 4095) z ≡ false → nat_abs z ≤ 4095
-held_abs (pos n) a b = omega (arith, ltb-false)
-held_abs (negsuc n) a b = never (sym a)

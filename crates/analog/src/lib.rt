@@ -12,36 +12,31 @@ fn scaled(low: i32, high: i32, v: i32) -> i64
     requires { eq_z low high ≡ false }
     ensures { result ≡ floor_by (pos 4095 *ℤ (v -ℤ low)) (high -ℤ low) }
 {
-    let rise = 4095 * (v as i64 - low as i64);
-    let run = high as i64 - low as i64;
+    let rise = 4095 * (i64::from(v) - i64::from(low));
+    let run = i64::from(high) - i64::from(low);
     if run < 0 {
-        exact::floor(0 - rise, 0 - run)
+        exact::floor(-rise, -run)
     } else {
         exact::floor(rise, run)
     }
 }
 
 // Held to 0 to 4,095.
+#[tactic(auto, unfolding(crate::specs::Analog::held))]
 fn held(z: i64) -> i32
     ensures { result ≡ held z }
 {
-    if z < 0 {
-        return 0;
-    }
-    if 4095 < z {
-        return 4095;
-    }
-    z as i32
+    z.clamp(0, 4095) as i32
 }
 
 // The automatic code of a reading.
+#[tactic(auto, unfolding(crate::specs::Analog::code_of))]
 pub fn code_of(low: i32, high: i32, reading: Reading) -> i32
     requires { eq_z low high ≡ false }
     ensures { result ≡ code_of low high reading }
 {
     match reading {
-        Reading::Nothing => 0,
-        Reading::Under => 0,
+        Reading::Nothing | Reading::Under => 0,
         Reading::Number(v) => held(scaled(low, high, v)),
         Reading::Over => 4095,
     }

@@ -4,10 +4,11 @@ use mathlib.Core.Bool.{true, false}
 use Prim.Native.Nat.{ℕ, zero, suc, ◌+◌, ◌*◌, ◌/◌, ◌≤◌, ◌<◌}
 use native.Mathlib.Omega.{arith}
 use native.Mathlib.Nat.{div-le_self}
-use lib.IntN.{ℤ, pos, negsuc, neg_ℤ, nat_abs, ◌+ℤ◌, ◌-ℤ◌, ◌*ℤ◌, neg_ℤ-+ℤ, +ℤ_one, -ℤ_one}
+use lib.IntN.{ℤ, pos, negsuc, neg_ℤ, nat_abs, ◌+ℤ◌, ◌-ℤ◌, ◌*ℤ◌, neg_ℤ-+ℤ}
 use lib.Signed.{quot_z, mag}
 use mir.Syntax.{w64}
 use mir.Val.{SFits, of_z}
+use Rattle.std.specs.Int.{int_div_euclid}
 use Rattle.exact.specs.Sign.{is_neg}
 use Rattle.exact.specs.Exact.{Divisor, Fraction, half_up, nearest, cut, floor}
 use Rattle.exact.proofs.Z.{never, quot_neg, abs_fits, abs_add_le, abs_sub_le, abs_mul, abs_quot_le}
@@ -76,36 +77,10 @@ mag_cut (negsuc a) d = mag_minus (suc a / d) a (div-le_self (suc a) d)
 pub cut_fits : (n : ℤ) (d : ℕ) → SFits w64 n → SFits w64 (cut n d)
 cut_fits n d f = record { sfits = omega (arith, mag_cut n d) }
 
--- ---- floor: below zero, one up, the quotient, and one down again
+-- ---- floor: of a divisor above zero it is std's Euclidean quotient
 
-one_up : (a : ℕ) → negsuc a +ℤ pos 1 ≡ neg_ℤ (pos a)
-one_up zero = +ℤ_one (negsuc 0)
-one_up (suc a) = +ℤ_one (negsuc (suc a))
-
-one_down : (k : ℕ) → neg_ℤ (pos k) -ℤ pos 1 ≡ negsuc k
-one_down zero = -ℤ_one (pos 0)
-one_down (suc k) = -ℤ_one (negsuc k)
-
-pub quotient_floor : (n d : ℤ) → is_neg n ≡ true → Divisor d → quot_z (n +ℤ pos 1) d -ℤ pos 1 ≡ floor n (nat_abs d)
+pub floor_euclid : (n d : ℤ) → Divisor d → int_div_euclid n d ≡ floor n (nat_abs d)
 unfolding floor
-quotient_floor (pos a) d e h = never e
-quotient_floor (negsuc a) (negsuc b) e h = never (sym h.above)
-quotient_floor (negsuc a) (pos b) e h = rw (one_up a, quot_neg a b) (one_down (a / b))
-
--- at zero and above the floor is the cut quotient
-pub floor_cut : (n : ℤ) (d : ℕ) → is_neg n ≡ false → cut n d ≡ floor n d
-unfolding cut floor
-floor_cut (pos a) d e = refl
-floor_cut (negsuc a) d e = never (sym e)
-
-pub raised_fits : (n : ℤ) → is_neg n ≡ true → SFits w64 n → SFits w64 (n +ℤ pos 1)
-raised_fits (pos a) e f = never e
-raised_fits (negsuc a) e f = rw (one_up a) (record { sfits = omega (arith, mag_minus a a (omega arith), f.sfits) })
-
-mag_floor : (n : ℤ) (d : ℕ) → mag (floor n d) ≤ mag n
-unfolding floor
-mag_floor (pos a) d = div-le_self a d
-mag_floor (negsuc a) d = div-le_self a d
-
-pub floor_fits : (n : ℤ) (d : ℕ) → SFits w64 n → SFits w64 (floor n d)
-floor_fits n d f = record { sfits = omega (arith, mag_floor n d) }
+floor_euclid (pos a) (pos b) h = refl
+floor_euclid (negsuc a) (pos b) h = refl
+floor_euclid n (negsuc b) h = never (sym h.above)

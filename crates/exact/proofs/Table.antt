@@ -4,17 +4,18 @@ use mathlib.Core.Bool.{Bool, true, false, ◌&&◌, ◌||◌}
 use mathlib.Core.List.{List, [], ◌∷◌}
 use Prim.Native.Nat.{ℕ, zero, suc, ◌+◌, ◌*◌, ◌^◌, ◌/◌, ◌%◌, ◌≤◌, ◌<◌}
 use native.Mathlib.Nat.{add-zero, zero-add, add-suc, suc-add, le_of_suc-le-suc, not-suc-le-zero}
-use native.Mathlib.Numerals.{add-one}
 use native.Mathlib.Omega.{arith}
 use borrow.Author.Tests.{eqb-true}
 use lib.Dec.{eqb}
-use lib.ListN.{length, get_or, drop}
-use lib.Seq.{drop-cons, drop-length}
+use lib.ListN.{length, get_or}
 use lib.IntN.{ℤ, pos, nat_abs}
 use lib.Signed.{le_z}
+use Rattle.std.specs.List.{list_any}
+use Rattle.std.specs.Ordering.{int_eq}
+use Rattle.std.proofs.lemmas.Bool.Decides.{same_from_decides, Decides-int_eq}
 use Rattle.exact.specs.Sign.{is_neg, eq_z}
 use Rattle.exact.specs.Tables.{steps, among, powers}
-use Rattle.exact.proofs.Z.{both, never, eq_z_true, from_to}
+use Rattle.exact.proofs.Z.{both, never, eq_z_true, eq_z_refl, from_to}
 
 module _ {A : Type 0} (none : A) where
   -- the test passes at each entry of the list and its place, counted from i
@@ -48,18 +49,16 @@ step_at k h = eq_z_true _ _ (at (pos 0) (λ i x. eq_z x (pos (get_or leading (i 
 
 -- ---- the search in a table of signed numbers
 
-module _ (z : ℤ) (xs : List ℤ) (i : ℕ) where
-  pub among_here : i < length xs → eq_z z (get_or xs i (pos 0)) ≡ true → among z (drop i xs) ≡ true
-  unfolding among
-  among_here h e = rw (drop-cons xs i (pos 0) h, e)
+-- std's `==` is the definitions' test of equality
+pub int_eq_is : (x z : ℤ) → int_eq x z ≡ eq_z z x
+int_eq_is x z =
+    same_from_decides (int_eq x z) (eq_z z x) (Decides-int_eq x z) ((λ e. sym (eq_z_true z x e)), λ e. rw e (eq_z_refl z))
 
-  pub among_next : i < length xs → eq_z z (get_or xs i (pos 0)) ≡ false → among z (drop i xs) ≡ among z (drop (i + 1) xs)
-  unfolding among
-  among_next h e = rw (drop-cons xs i (pos 0) h, e, add-one i)
-
-pub among_end : (z : ℤ) (xs : List ℤ) → among z (drop (length xs) xs) ≡ false
+-- a number that is equal to an entry stands among them
+pub any_among : (z : ℤ) (xs : List ℤ) → list_any (λ x. int_eq x z) xs ≡ among z xs
 unfolding among
-among_end z xs = rw (drop-length xs)
+any_among z [] = refl
+any_among z (x ∷ xs) = rw (int_eq_is x z, any_among z xs)
 
 -- what holds of every entry holds of a number that stands among them
 by_entry : (test : ℤ → Bool) (z x : ℤ) (b r : Bool) → eq_z z x ≡ b → test x ≡ true → (r ≡ true → test z ≡ true) → b || r ≡ true → test z ≡ true

@@ -35,32 +35,26 @@ pub fn cut(n: i64, d: i64) -> i64
 }
 
 // The greatest whole number that is not above n / d.
+#[tactic(auto, using(crate::proofs::Quotients::floor_euclid))]
 pub fn floor(n: i64, d: i64) -> i64
     requires { Divisor d }
     ensures { result ≡ floor n (nat_abs d) }
 {
-    if n < 0 { (n + 1) / d - 1 } else { n / d }
+    n.div_euclid(d)
 }
 
 // Whether lo <= z <= hi.
 pub fn is_within(z: i32, lo: i32, hi: i32) -> bool
     ensures { result ≡ within lo hi z }
 {
-    (lo <= z) & (z <= hi)
+    (lo..=hi).contains(&z)
 }
 
 // Whether n stands in a table.
 pub fn among(n: i32, table: &[i32]) -> bool
     ensures { result ≡ among n table.now }
 {
-    let mut i = 0;
-    while i < table.len() {
-        if n == table[i] {
-            return true;
-        }
-        i += 1;
-    }
-    false
+    table.contains(&n)
 }
 
 // The rounding steps.

@@ -17,7 +17,7 @@ pub record IsNearestUp (n : ℤ) (d : ℕ) (r : ℤ) : Type 0 where
   pub near : 2 * nat_abs (pos d *ℤ r -ℤ n) ≤ d
   pub up : 2 * nat_abs (pos d *ℤ r -ℤ n) ≡ d → is_neg (pos d *ℤ r -ℤ n) ≡ false
 
--- as many numbers as the table has, each below the next: what halving the range leans on
+-- as many numbers as the table has, each below the next: what the search for a pair leans on
 pub record Rising (table : List ℤ) : Type 0 where
   pub rises : (k : ℕ) → k + 1 < entries → lt_z (point table k) (point table (k + 1)) ≡ true
 

@@ -23,17 +23,15 @@ pub fn samples(tenths: i32) -> u32
 }
 
 // One sample. A run is raised only where it stays below its count, so every value of it is taken as it is.
+#[tactic(auto, unfolding(crate::specs::Run::counted))]
 pub fn counted(run: u32, holds: bool, count: u32) -> Run
     ensures { result ≡ counted run holds count }
 {
-    if holds {
-        if 1 < count {
-            if run < count - 1 {
-                return Run::Going(run + 1);
-            }
-        }
-        Run::Complete
-    } else {
+    if !holds {
         Run::Broken
+    } else if run < count.saturating_sub(1) {
+        Run::Going(run + 1)
+    } else {
+        Run::Complete
     }
 }

@@ -106,22 +106,12 @@ const RESISTANCES: [i32; ENTRIES] = [
 ];
 
 // The first pair of neighbours whose right entry is not below the input, the last pair where none is; it is the pair's left place. The
-// range in which it lies is halved until one pair is left.
+// right entries begin at place 1, and the last one is not asked.
 fn pair(table: &[i32; ENTRIES], input: i32) -> usize
     requires { Rising table.now }
     ensures { result ≡ segment table.now entries input }
 {
-    let mut low = 0;
-    let mut high = ENTRIES - 2;
-    while low < high {
-        let middle = (low + high) / 2;
-        if input <= table[middle + 1] {
-            high = middle;
-        } else {
-            low = middle + 1;
-        }
-    }
-    low
+    table[1..ENTRIES - 1].partition_point(|right| *right < input)
 }
 
 // The line between two neighbours, in tenths of a degree, as one exact fraction rounded to the nearest whole number. From one degree to
@@ -131,9 +121,9 @@ fn along(left: i32, right: i32, place: usize, input: i32) -> i64
     requires place_lt_entries { place < entries }
     ensures { result ≡ on_line left (tenths_at place) right (tenths_at (place + 1)) input }
 {
-    let run = right as i64 - left as i64;
+    let run = i64::from(right) - i64::from(left);
     exact::nearest(
-        (10 * place as i64 - 2000) * run + (input as i64 - left as i64) * 10,
+        (10 * place as i64 - 2000) * run + (i64::from(input) - i64::from(left)) * 10,
         run,
     )
 }
@@ -159,5 +149,5 @@ pub fn read(step: i32, input: i32) -> Reading
         return Reading::Under;
     }
     let whole = tenths(&RESISTANCES, input);
-    reading::judged(exact::to_step(whole, step as i64))
+    reading::judged(exact::to_step(whole, i64::from(step)))
 }

@@ -1,16 +1,16 @@
 -- The numbers of the total fit: the unit of an accepted configuration, a kept sum, and what is added to it. Assumes nothing.
-use mathlib.Core.Path.{◌≡◌, refl, ap, ap₂}
+use mathlib.Core.Path.{◌≡◌, refl, ap}
 use Prim.Native.Nat.{◌*◌, ◌/◌, ◌^◌, ◌≤◌, ◌<◌}
 use native.Mathlib.Nat.{lt-div-mul-add, mul-le-mul_right}
 use native.Mathlib.Omega.{arith}
 use lib.Dec.{lit<}
 use lib.IntN.{ℤ, pos, nat_abs, ◌+ℤ◌, ◌*ℤ◌}
 use mir.Syntax.{w32, w64}
-use mir.Val.{SFits, to_z, of_z}
+use mir.Val.{SFits}
 use mathlib.Core.Bool.{true, false}
 use Rattle.exact.specs.Sign.{is_neg}
 use Rattle.exact.specs.Exact.{Divisor}
-use Rattle.exact.proofs.Z.{abs_fits, abs_add_le, abs_mul_le, fits_abs, widened, is_pos, from_to, between_is}
+use Rattle.exact.proofs.Z.{abs_fits, abs_add_le, abs_mul_le, fits_abs, is_pos, from_to, between_is}
 use Rattle.exact.proofs.Meaning.{abs_cut}
 use Rattle.total.specs.declared.Totalizer.{Totalizer}
 use Rattle.total.specs.declared.Total.{Total}
@@ -68,11 +68,8 @@ module _ (s : Totalizer) (a : Timed s) where
   pub batch_abs : {v : ℤ} → SFits w32 v → nat_abs (v *ℤ pos (unit_of s)) ≤ 2 ^ 62
   batch_abs {v} f = omega (arith, abs_mul_le v (pos (unit_of s)) (2 ^ 31) 1728000000 (fits_abs f) unit_le)
 
--- a product of two numbers of 32 bits: what the machine makes of them is it, and it fits
+-- a product of two numbers of 32 bits fits
 module _ {v x : ℤ} (f : SFits w32 v) (g : SFits w32 x) where
-  pub product_is : to_z w64 (of_z w64 (to_z w32 (of_z w32 v))) *ℤ to_z w64 (of_z w64 (to_z w32 (of_z w32 x))) ≡ v *ℤ x
-  product_is = ap₂ ◌*ℤ◌ (widened f) (widened g)
-
   pub product_abs : nat_abs (v *ℤ x) ≤ 2 ^ 62
   product_abs = abs_mul_le v x (2 ^ 31) (2 ^ 31) (fits_abs f) (fits_abs g)
 

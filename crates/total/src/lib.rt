@@ -1,4 +1,7 @@
 // The total: a sum that samples or batch keys add to, and the cut quotient of it that is shown.
+//
+// A time base to divide by (`Timed`) and a total in its range are asked in clauses, and no type holds them: the calls are promised for plain
+// values, of which the one is a setting and the other is measured, and a type of both would ask more of whoever has them.
 #![tactic(auto)]
 
 ghost use Rattle.std.specs.Prelude.{◌≡◌, true, ◌^◌, ◌≤◌, pos, nat_abs};
@@ -31,14 +34,16 @@ pub struct Total {
 }
 
 // What one of the total is in the sum: 20,000 × time base.
+#[tactic(auto, using(crate::proofs::Sums::unit_is, crate::proofs::Sums::unit_fits))]
 fn unit_of(s: Totalizer) -> i64
     requires { Timed s }
     ensures { result ≡ pos (unit_of s) }
 {
-    20000 * s.time_base as i64
+    20000 * i64::from(s.time_base)
 }
 
 // The total of a sum, cut towards zero.
+#[tactic(auto, using(crate::proofs::Sums::unit_divides), unfolding(crate::specs::Total::quotient))]
 fn quotient(s: Totalizer, sum: i64) -> i64
     requires { Timed s }
     ensures { result ≡ quotient s sum }
@@ -47,42 +52,33 @@ fn quotient(s: Totalizer, sum: i64) -> i64
 }
 
 // The new sum where its total stays in range, the old one where it would leave.
+#[tactic(auto, unfolding(crate::specs::Total::summed))]
 fn summed(s: Totalizer, old: i64, new: i64) -> Total
     requires { Timed s }
     ensures { result ≡ summed s old new }
 {
     let q = quotient(s, new);
-    if 999999999 < q {
-        return Total {
-            sum: old,
-            range: Range::Over,
-        };
-    }
-    if q < -199999999 {
-        return Total {
-            sum: old,
-            range: Range::Under,
-        };
-    }
-    Total {
-        sum: new,
-        range: Range::Within,
-    }
+    let (sum, range) = if 999999999 < q {
+        (old, Range::Over)
+    } else if q < -199999999 {
+        (old, Range::Under)
+    } else {
+        (new, Range::Within)
+    };
+    Total { sum, range }
 }
 
 // x more on the sum, unless the total is Over or Under.
+#[tactic(auto, using(crate::proofs::Sums::sum_fits), unfolding(crate::specs::Total::added))]
 fn added(s: Totalizer, t: Total, x: i64) -> Total
     requires timed { Timed s }
     requires t_value { in_range s t ≡ true }
     requires x_bound { nat_abs x ≤ 2 ^ 62 }
     ensures { result ≡ added s t x }
 {
-    let sum = t.sum;
-    let range = t.range;
-    match range {
-        Range::Within => summed(s, sum, sum + x),
-        Range::Under => t,
-        Range::Over => t,
+    match t.range {
+        Range::Within => summed(s, t.sum, t.sum + x),
+        Range::Under | Range::Over => t,
     }
 }
 
@@ -90,39 +86,31 @@ fn added(s: Totalizer, t: Total, x: i64) -> Total
 fn counts(s: Totalizer, v: i32) -> bool
     ensures { result ≡ counts s v }
 {
-    !s.batch & (s.low_cut <= v)
+    !s.batch && s.low_cut <= v
 }
 
 // What a sample adds: reading × factor, of a number that counts.
+#[tactic(auto, using(crate::proofs::Sums::product_fits), unfolding(crate::specs::Total::sample_adds))]
 fn sample_adds(s: Totalizer, reading: Reading) -> i64
     ensures value { result ≡ sample_adds s reading }
     ensures small { nat_abs result ≤ 2 ^ 62 }
 {
     match reading {
-        Reading::Nothing => 0,
-        Reading::Under => 0,
-        Reading::Number(v) => {
-            if counts(s, v) {
-                v as i64 * s.factor as i64
-            } else {
-                0
-            }
-        }
-        Reading::Over => 0,
+        Reading::Number(v) if counts(s, v) => i64::from(v) * i64::from(s.factor),
+        Reading::Nothing | Reading::Under | Reading::Number(_) | Reading::Over => 0,
     }
 }
 
 // What key 1 adds in batch: the reading itself in units of the total, without factor or low cut.
+#[tactic(auto, using(crate::proofs::Sums::batch_abs), unfolding(crate::specs::Total::batch_adds))]
 fn batch_adds(s: Totalizer, reading: Reading) -> i64
     requires { Timed s }
     ensures value { result ≡ batch_adds s reading }
     ensures small { nat_abs result ≤ 2 ^ 62 }
 {
     match reading {
-        Reading::Nothing => 0,
-        Reading::Under => 0,
-        Reading::Number(v) => v as i64 * unit_of(s),
-        Reading::Over => 0,
+        Reading::Number(v) => i64::from(v) * unit_of(s),
+        Reading::Nothing | Reading::Under | Reading::Over => 0,
     }
 }
 
@@ -155,20 +143,21 @@ pub fn reset() -> Total
 }
 
 // The total that is shown.
+#[tactic(auto, using(crate::proofs::Sums::kept_total), unfolding(crate::specs::Total::shown))]
 pub fn shown(s: Totalizer, t: Total) -> Reading
     requires timed { Timed s }
     requires t_value { in_range s t ≡ true }
     ensures { result ≡ shown s t }
 {
-    let range = t.range;
-    match range {
+    match t.range {
         Range::Within => Reading::Number(quotient(s, t.sum) as i32),
         Range::Under => Reading::Under,
         Range::Over => Reading::Over,
     }
 }
 
-// Whether the total lies in its range: the sum is held against the limits times the unit, which spares a division.
+// Whether the total lies in its range: the sum is held against the limits times the unit, which spares a division. Every event of a meter
+// asks it, so the first test decides no jump.
 pub fn is_in_range(s: Totalizer, t: Total) -> bool
     requires { Timed s }
     ensures { result ≡ in_range s t }

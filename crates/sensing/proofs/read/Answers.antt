@@ -11,7 +11,7 @@ use mir.Val.{to_z, of_z}
 use mir.Facts.{to_z-of_z}
 use Rattle.exact.specs.Sign.{within}
 use Rattle.exact.specs.Exact.{Fraction}
-use Rattle.exact.proofs.Z.{back64, widens, widened, from_to, within_is}
+use Rattle.exact.proofs.Z.{back64, widened, from_to, within_is}
 use Rattle.reading.specs.Reading.{displayed}
 use Rattle.platinum.specs.Table.{resistances}
 use Rattle.platinum.specs.Platinum.{between, pair_of}
@@ -20,6 +20,9 @@ use Rattle.sensing.proofs.read.Goals as goal
 use Rattle.sensing.proofs.read.Lts as lts
 use Rattle.sensing.proofs.read.Reads as reads
 use Rattle.sensing.proofs.read.Tie as tie
+
+abbrev After-tenths-whole : Type 0
+After-tenths-whole = lts.After-tenths tie.the-claims reads.Pre reads.Post
 
 abbrev Then-input-gt390481 : Type 0
 Then-input-gt390481 = lts.Then1 tie.the-claims reads.Pre reads.Post
@@ -68,13 +71,10 @@ unfolding resistances
 tenths-whole-requires c = refl
 
 -- tenths of a degree, of the input
-whole : (c : goal.After-tenths-whole) → c.tenths-whole.result ≡ between (pair_of c.args.input) c.args.input
+whole : (c : After-tenths-whole) → c.tenths-whole.result ≡ between (pair_of c.args.input) c.args.input
 whole c =
     let s = c in
     c.tenths-whole.ensures ∙ rw (to_z-of_z s.ranges.input)
-
-pub overflow_cast-step : goal.overflow_cast-step
-overflow_cast-step c = widens c.ranges.step
 
 -- the step that they are rounded to
 over_step : (v step : ℤ) → nat_abs v ≤ 8500 → within (pos 1) (pos 100) step ≡ true → Fraction v step
@@ -86,8 +86,8 @@ pub to_step-requires : goal.to_step-requires
 to_step-requires c =
     let e = c in
     let s = e in
-    rw (back64 c.tenths-whole.result c.tenths-whole.type_inv, whole c, widened s.ranges.step)
-    (over_step _ s.args.step (value_small s.args.input (inside e.before.before)) s.requires)
+    rw (back64 c.tenths-whole.result c.tenths-whole.type_inv, whole c.before, c.from.ensures, widened s.ranges.step)
+    (over_step _ s.args.step (value_small s.args.input (inside e.before.before.before)) s.requires)
 
 pub returns : goal.returns
 unfolding displayed
@@ -96,6 +96,6 @@ returns c =
     let w = t in
     let e = w in
     let s = e in
-    rw (read_inside s.args.step s.args.input (inside e.before.before.before.before))
+    rw (read_inside s.args.step s.args.input (inside e.before.before.before.before.before))
     (c.judged.ensures
-    ∙ rw (back64 t.to_step.result t.to_step.type_inv, t.to_step.ensures, back64 w.tenths-whole.result w.tenths-whole.type_inv, whole w.before.before, widened s.ranges.step))
+    ∙ rw (back64 t.to_step.result t.to_step.type_inv, t.to_step.ensures, back64 w.tenths-whole.result w.tenths-whole.type_inv, whole w.before.before.before, c.from.ensures, widened s.ranges.step))
