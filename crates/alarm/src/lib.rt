@@ -1,7 +1,7 @@
 // One alarm: through a sample, a reset and a written setpoint.
 #![tactic(auto)]
 
-ghost use Rattle.std.specs.Prelude.{◌≡◌};
+ghost use Rattle.std.specs.Prelude.{◌≡◌, cond};
 ghost use Rattle.alarm.specs.Alarm.{above, below, on_condition, off_condition, awaited, delay, off, moved, sampled, reset, written};
 
 use reading::Reading;
@@ -25,69 +25,56 @@ pub struct Alarm {
     pub run: u32,
 }
 
-// Over lies above every number and Under below; nothing meets no condition.
-fn above(reading: Reading, z: i64) -> bool
-    ensures { result ≡ above reading z }
+// Whether a reading lies beyond a number: below it where this says so, else above it. Over lies above every number and Under below, and
+// nothing lies on no side.
+#[tactic(auto, unfolding(crate::specs::Alarm::above, crate::specs::Alarm::below))]
+fn beyond(is_below: bool, reading: Reading, z: i64) -> bool
+    ensures { result ≡ cond is_below (below reading z) (above reading z) }
 {
     match reading {
         Reading::Nothing => false,
-        Reading::Under => false,
-        Reading::Number(v) => v as i64 > z,
-        Reading::Over => true,
+        Reading::Under => is_below,
+        Reading::Number(v) if is_below => i64::from(v) < z,
+        Reading::Number(v) => i64::from(v) > z,
+        Reading::Over => !is_below,
     }
 }
 
-fn below(reading: Reading, z: i64) -> bool
-    ensures { result ≡ below reading z }
-{
-    match reading {
-        Reading::Nothing => false,
-        Reading::Under => true,
-        Reading::Number(v) => (v as i64) < z,
-        Reading::Over => false,
-    }
-}
-
+// The condition to go on: beyond the setpoint, on the side on which the alarm acts.
+#[tactic(auto, unfolding(crate::specs::Alarm::on_condition))]
 fn on_condition(s: Settings, a: Alarm, reading: Reading) -> bool
     ensures { result ≡ on_condition s a reading }
 {
-    let setpoint = a.setpoint as i64;
-    if s.low_acting {
-        below(reading, setpoint)
-    } else {
-        above(reading, setpoint)
-    }
+    beyond(s.low_acting, reading, i64::from(a.setpoint))
 }
 
-// At most z is below z + 1, and at least z is above z - 1.
+// The condition to go off, back by the hysteresis at least: at most z is below z + 1, and at least z is above z - 1.
 fn off_condition(s: Settings, a: Alarm, reading: Reading) -> bool
     ensures { result ≡ off_condition s a reading }
 {
-    let setpoint = a.setpoint as i64;
-    let hysteresis = s.hysteresis as i64;
+    let setpoint = i64::from(a.setpoint);
+    let hysteresis = i64::from(s.hysteresis);
     if s.low_acting {
-        above(reading, setpoint + hysteresis - 1)
+        beyond(false, reading, setpoint + hysteresis - 1)
     } else {
-        below(reading, setpoint - hysteresis + 1)
+        beyond(true, reading, setpoint - hysteresis + 1)
     }
 }
 
 // The condition that the alarm waits for: to go on while it is off, to go off while it is on and not latched.
+#[tactic(auto, unfolding(crate::specs::Alarm::awaited))]
 fn awaited(s: Settings, a: Alarm, reading: Reading) -> bool
     ensures { result ≡ awaited s a reading }
 {
     if a.on {
-        if s.latched {
-            false
-        } else {
-            off_condition(s, a, reading)
-        }
+        !s.latched && off_condition(s, a, reading)
     } else {
         on_condition(s, a, reading)
     }
 }
 
 // The delay that the alarm waits for.
+#[tactic(auto, unfolding(crate::specs::Alarm::delay))]
 fn delay(s: Settings, a: Alarm) -> i32
     ensures { result ≡ delay s a }
 {
@@ -106,37 +93,32 @@ pub fn off(setpoint: i32) -> Alarm
 }
 
 // What a run makes of the alarm: complete, it changes the state.
+#[tactic(auto, unfolding(crate::specs::Alarm::moved))]
 fn moved(a: Alarm, run: Run) -> Alarm
     ensures { result ≡ moved a run }
 {
     match run {
-        Run::Broken => Alarm {
-            setpoint: a.setpoint,
-            on: a.on,
-            run: 0,
-        },
-        Run::Going(n) => Alarm {
-            setpoint: a.setpoint,
-            on: a.on,
-            run: n,
-        },
+        Run::Broken => Alarm { run: 0, ..a },
+        Run::Going(run) => Alarm { run, ..a },
         Run::Complete => Alarm {
-            setpoint: a.setpoint,
             on: !a.on,
             run: 0,
+            ..a
         },
     }
 }
 
 // One sample.
+#[tactic(auto, unfolding(crate::specs::Alarm::sampled))]
 pub fn sampled(s: Settings, a: Alarm, reading: Reading) -> Alarm
     ensures { result ≡ sampled s a reading }
 {
-    let next = run::counted(a.run, awaited(s, a, reading), run::samples(delay(s, a)));
-    moved(a, next)
+    let holds = awaited(s, a, reading);
+    moved(a, run::counted(a.run, holds, run::samples(delay(s, a))))
 }
 
 // A reset makes the state off and the run 0.
+#[tactic(auto, unfolding(crate::specs::Alarm::reset))]
 pub fn reset(a: Alarm) -> Alarm
     ensures { result ≡ reset a }
 {
@@ -144,6 +126,7 @@ pub fn reset(a: Alarm) -> Alarm
 }
 
 // A written setpoint: the present value changes nothing, a new one makes the run 0 and leaves the state.
+#[tactic(auto, unfolding(crate::specs::Alarm::written))]
 pub fn written(a: Alarm, setpoint: i32) -> Alarm
     ensures { result ≡ written a setpoint }
 {
@@ -152,8 +135,8 @@ pub fn written(a: Alarm, setpoint: i32) -> Alarm
     } else {
         Alarm {
             setpoint,
-            on: a.on,
             run: 0,
+            ..a
         }
     }
 }

@@ -6,12 +6,12 @@ use Prim.Native.Nat.{suc}
 use lib.IntN.{ℤ}
 use lib.ListN.{length}
 use lib.Signed.{le_z}
+use Rattle.std.specs.Prelude.{Option, None, Some}
 use Rattle.exact.proofs.Z.{never, lt_self, lt_trans, not_lt, le_both}
 use Rattle.extremes.specs.declared.Side.{Side}
 use Rattle.extremes.specs.declared.Side.TheVariants.{Max, Min}
 use Rattle.extremes.specs.declared.Streak.{Streak}
-use Rattle.extremes.specs.declared.Streak.TheVariants.{Idle, Lasts}
-use Rattle.extremes.specs.Extremes.{beyond, nearer, so_many, closest}
+use Rattle.extremes.specs.Extremes.{streak, beyond, nearer, so_many, closest}
 use Rattle.extremes.specs.Takes.{OneOf, here, further, Closest}
 
 -- ---- beyond is an order
@@ -59,9 +59,9 @@ module _ (side : Side) where
   only_itself v u (further _ _ o) = elim o [ ]
 
   -- the run that some readings make, the newest first
-  abbrev pub streak_of : List ℤ → Streak
-  streak_of [] = Idle
-  streak_of (v ∷ vs) = Lasts (suc (length vs)) (closest side (streak_of vs) v)
+  abbrev pub streak_of : List ℤ → Option Streak
+  streak_of [] = None
+  streak_of (v ∷ vs) = Some (streak (suc (length vs)) (closest side (streak_of vs) v))
 
   -- of any numbers there is a closest one
   pub closest_of : (v : ℤ) (vs : List ℤ) → Closest side (closest side (streak_of vs) v) (v ∷ vs)

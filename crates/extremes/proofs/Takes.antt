@@ -10,17 +10,15 @@ use borrow.Author.Tests.{ltb-true, ltb-false}
 use lib.Dec.{ltb}
 use lib.IntN.{ℤ}
 use lib.ListN.{length}
+use Rattle.std.specs.Prelude.{Option, None, Some}
 use Rattle.reading.specs.declared.Reading.{Reading}
 use Rattle.reading.specs.declared.Reading.TheVariants.{Nothing, Under, Number, Over}
 use Rattle.run.specs.Run.{samples}
 use Rattle.run.proofs.Laws.{samples_some}
 use Rattle.extremes.specs.declared.Side.{Side}
-use Rattle.extremes.specs.declared.Kept.{Kept}
-use Rattle.extremes.specs.declared.Kept.TheVariants.{Empty, Holds}
 use Rattle.extremes.specs.declared.Streak.{Streak}
-use Rattle.extremes.specs.declared.Streak.TheVariants.{Idle, Lasts}
 use Rattle.extremes.specs.declared.Extreme.{Extreme}
-use Rattle.extremes.specs.Extremes.{extreme, taken, ended, beyond, so_many, closest, sampled, reset}
+use Rattle.extremes.specs.Extremes.{extreme, streak, taken, ended, beyond, so_many, closest, sampled, reset}
 use Rattle.extremes.specs.History.{Event, sample, reset_key, held, numbers}
 use Rattle.extremes.specs.Takes.{OneOf, here, further, EachBeyond, Closest, Ran, at_once, Takes}
 use Rattle.extremes.proofs.Laws as laws
@@ -28,23 +26,15 @@ use Rattle.extremes.proofs.Order.{nothing_of, streak_of, many_of, closest_of, cl
 
 -- ---- parts of what is held
 
-number_of : Kept → ℤ → ℤ
-number_of Empty z = z
-number_of (Holds v) z = v
+same_number : (v w : ℤ) → Some v ≡ Some w → v ≡ w
+same_number v w e = cc
 
-same_number : (v w : ℤ) → Holds v ≡ Holds w → v ≡ w
-unfolding number_of
-same_number v w e = ap (λ (x : Kept). number_of x v) e
+none≢some : {A : Type 0} (x : A) → None ≡ Some x → ⊥
+none≢some x e = cc
 
-empty≢holds : (v : ℤ) → Empty ≡ Holds v → ⊥
-empty≢holds v e = let z : ◌≡◌ {A = ℕ} 0 1 = cc in omega arith
-
-idle≢lasts : (n : ℕ) (v : ℤ) → Idle ≡ Lasts n v → ⊥
-idle≢lasts n v e = let z : ◌≡◌ {A = ℕ} 0 1 = cc in omega arith
-
-closest_in : Streak → ℤ → ℤ
-closest_in Idle z = z
-closest_in (Lasts m z) y = z
+closest_in : Option Streak → ℤ → ℤ
+closest_in None z = z
+closest_in (Some s) y = s.nearest
 
 reset_idle : (r : Reading) → so_many (reset r).run ≡ 0
 unfolding reset
@@ -60,7 +50,7 @@ module _ (side : Side) (capture : ℤ) where
   record Since (h : List Event) (k : ℤ) (vs : List ℤ) : Type 0 where
     before : List Event
     newest : h ≡ numbers vs ++ before
-    none_before : held side capture before ≡ extreme (Holds k) Idle
+    none_before : held side capture before ≡ extreme (Some k) None
     each_beyond : EachBeyond side k vs
 
   no_readings : (k : ℤ) → EachBeyond side k []
@@ -71,7 +61,7 @@ module _ (side : Side) (capture : ℤ) where
   one_further k v vs e b w (further _ _ o) = b w o
 
   -- where no run goes on
-  none_since : (h : List Event) (k : ℤ) → held side capture h ≡ extreme (Holds k) Idle → Since h k []
+  none_since : (h : List Event) (k : ℤ) → held side capture h ≡ extreme (Some k) None → Since h k []
   unfolding numbers
   none_since h k e = record { before = h; newest = refl; none_before = e; each_beyond = no_readings k }
 
@@ -88,21 +78,21 @@ module _ (side : Side) (capture : ℤ) where
 
   -- what a sample with a number leaves, by the three things that it can do to a run
   data Next (k v : ℤ) (vs : List ℤ) (e : Extreme) : Type 0 where
-    broken : e ≡ extreme (Holds k) Idle → Next k v vs e
-    going : beyond side v k ≡ true → length vs + 1 < samples capture → e ≡ extreme (Holds k) (streak_of side (v ∷ vs)) → Next k v vs e
+    broken : e ≡ extreme (Some k) None → Next k v vs e
+    going : beyond side v k ≡ true → length vs + 1 < samples capture → e ≡ extreme (Some k) (streak_of side (v ∷ vs)) → Next k v vs e
     complete : beyond side v k ≡ true → samples capture ≤ length vs + 1 → e ≡ taken (closest side (streak_of side vs) v) → Next k v vs e
 
   module _ (k v : ℤ) (vs : List ℤ) where
     leaves : Extreme
-    leaves = sampled side capture (extreme (Holds k) (streak_of side vs)) (Number v)
+    leaves = sampled side capture (extreme (Some k) (streak_of side vs)) (Number v)
 
     -- it goes on with one reading more
-    goes_on : beyond side v k ≡ true → length vs + 1 < samples capture → leaves ≡ extreme (Holds k) (streak_of side (v ∷ vs))
+    goes_on : beyond side v k ≡ true → length vs + 1 < samples capture → leaves ≡ extreme (Some k) (streak_of side (v ∷ vs))
     unfolding leaves
     goes_on e h =
         let many = many_of side vs in
         laws.grows side capture k v (streak_of side vs) e (omega arith)
-        ∙ ap (λ (n : ℕ). extreme (Holds k) (Lasts n (closest side (streak_of side vs) v))) (ap (λ (n : ℕ). n + 1) many ∙ add-one (length vs))
+        ∙ ap (λ (n : ℕ). extreme (Some k) (Some (streak n (closest side (streak_of side vs) v)))) (ap (λ (n : ℕ). n + 1) many ∙ add-one (length vs))
 
     -- it is complete
     is_over : beyond side v k ≡ true → samples capture ≤ length vs + 1 → leaves ≡ taken (closest side (streak_of side vs) v)
@@ -120,19 +110,19 @@ module _ (side : Side) (capture : ℤ) where
 
   -- a max or a min is empty, or holds a number with the run since then
   data Standing (h : List Event) (e : Extreme) : Type 0 where
-    none : e ≡ extreme Empty Idle → Standing h e
-    some : (k : ℤ) (vs : List ℤ) → Since h k vs → e ≡ extreme (Holds k) (streak_of side vs) → Standing h e
+    none : e ≡ extreme None None → Standing h e
+    some : (k : ℤ) (vs : List ℤ) → Since h k vs → e ≡ extreme (Some k) (streak_of side vs) → Standing h e
 
   after_number : (h : List Event) (k v : ℤ) (vs : List ℤ) → Since h k vs → (e : Extreme) → held side capture (sample (Number v) ∷ h) ≡ e → Next k v vs e → Standing (sample (Number v) ∷ h) e
   after_number h k v vs s e q (broken f) = some k [] (none_since _ k (q ∙ f)) f
   after_number h k v vs s e q (going b n f) = some k (v ∷ vs) (one_since h k v vs b s) f
   after_number h k v vs s e q (complete b n f) = some (closest side (streak_of side vs) v) [] (none_since _ _ (q ∙ f)) f
 
-  empty_first : (h : List Event) (v : ℤ) → held side capture h ≡ extreme Empty Idle → held side capture (sample (Number v) ∷ h) ≡ taken v
+  empty_first : (h : List Event) (v : ℤ) → held side capture h ≡ extreme None None → held side capture (sample (Number v) ∷ h) ≡ taken v
   unfolding held
-  empty_first h v e = ap (λ (x : Extreme). sampled side capture x (Number v)) e ∙ laws.first_taken side capture Idle v
+  empty_first h v e = ap (λ (x : Extreme). sampled side capture x (Number v)) e ∙ laws.first_taken side capture None v
 
-  holds_next : (h : List Event) (k v : ℤ) (vs : List ℤ) → held side capture h ≡ extreme (Holds k) (streak_of side vs) → held side capture (sample (Number v) ∷ h) ≡ leaves k v vs
+  holds_next : (h : List Event) (k v : ℤ) (vs : List ℤ) → held side capture h ≡ extreme (Some k) (streak_of side vs) → held side capture (sample (Number v) ∷ h) ≡ leaves k v vs
   unfolding held leaves
   holds_next h k v vs e = ap (λ (x : Extreme). sampled side capture x (Number v)) e
 
@@ -168,7 +158,7 @@ module _ (side : Side) (capture : ℤ) where
   below (sample r ∷ h) = laws.stays_below side capture (held side capture h) r
   below (reset_key r ∷ h) = rw (reset_idle r) (samples_some capture)
 
-  fewer : (h : List Event) (k : ℤ) (vs : List ℤ) → held side capture h ≡ extreme (Holds k) (streak_of side vs) → length vs < samples capture
+  fewer : (h : List Event) (k : ℤ) (vs : List ℤ) → held side capture h ≡ extreme (Some k) (streak_of side vs) → length vs < samples capture
   fewer h k vs e = rw (ap (λ (x : Extreme). so_many x.run) e ∙ many_of side vs) at (below h)
 
   -- ---- where a sample changes what is kept
@@ -186,7 +176,7 @@ module _ (side : Side) (capture : ℤ) where
       }
 
   module _ (h : List Event) (k t : ℤ) (differs : t ≢ k) where
-    changed_by : (v : ℤ) (vs : List ℤ) → Since h k vs → length vs < samples capture → (e : Extreme) → Next k v vs e → e.kept ≡ Holds t → Ran side capture (sample (Number v) ∷ h) k (samples capture) t
+    changed_by : (v : ℤ) (vs : List ℤ) → Since h k vs → length vs < samples capture → (e : Extreme) → Next k v vs e → e.kept ≡ Some t → Ran side capture (sample (Number v) ∷ h) k (samples capture) t
     changed_by v vs s l e (broken f) q = absurd (differs (same_number t k (sym q ∙ ap (λ (x : Extreme). x.kept) f)))
     changed_by v vs s l e (going b n f) q = absurd (differs (same_number t k (sym q ∙ ap (λ (x : Extreme). x.kept) f)))
     changed_by v vs s l e (complete b n f) q =
@@ -194,15 +184,15 @@ module _ (side : Side) (capture : ℤ) where
         let is : t ≡ closest side (streak_of side vs) v = same_number _ _ (sym q ∙ ap (λ (x : Extreme). x.kept) f) in
         rw (is, counted) (ran (sample (Number v) ∷ h) k v vs (one_since h k v vs b s))
 
-    number_changes : (v : ℤ) → Standing h (held side capture h) → (held side capture h).kept ≡ Holds k → (held side capture (sample (Number v) ∷ h)).kept ≡ Holds t → Ran side capture (sample (Number v) ∷ h) k (samples capture) t
-    number_changes v (none e) p q = absurd (empty≢holds k (sym (ap (λ (x : Extreme). x.kept) e) ∙ p))
+    number_changes : (v : ℤ) → Standing h (held side capture h) → (held side capture h).kept ≡ Some k → (held side capture (sample (Number v) ∷ h)).kept ≡ Some t → Ran side capture (sample (Number v) ∷ h) k (samples capture) t
+    number_changes v (none e) p q = absurd (none≢some k (sym (ap (λ (x : Extreme). x.kept) e) ∙ p))
     number_changes v (some j vs s e) p q =
         let is : j ≡ k = same_number j k (sym (ap (λ (x : Extreme). x.kept) e) ∙ p) in
-        let e' : held side capture h ≡ extreme (Holds k) (streak_of side vs) = rw is at e in
+        let e' : held side capture h ≡ extreme (Some k) (streak_of side vs) = rw is at e in
         let s' : Since h k vs = rw is at s in
         changed_by v vs s' (fewer h k vs e') (leaves k v vs) (next k v vs) (sym (ap (λ (x : Extreme). x.kept) (holds_next h k v vs e')) ∙ q)
 
-    changes : (r : Reading) → (held side capture h).kept ≡ Holds k → (held side capture (sample r ∷ h)).kept ≡ Holds t → Ran side capture (sample r ∷ h) k (samples capture) t
+    changes : (r : Reading) → (held side capture h).kept ≡ Some k → (held side capture (sample r ∷ h)).kept ≡ Some t → Ran side capture (sample r ∷ h) k (samples capture) t
     unfolding held sampled
     changes Nothing p q = absurd (differs (same_number t k (sym q ∙ p)))
     changes Under p q = absurd (differs (same_number t k (sym q ∙ p)))
@@ -211,9 +201,9 @@ module _ (side : Side) (capture : ℤ) where
 
   -- ---- readings that are a run
 
-  module _ (before : List Event) (k : ℤ) (e : held side capture before ≡ extreme (Holds k) Idle) where
+  module _ (before : List Event) (k : ℤ) (e : held side capture before ≡ extreme (Some k) None) where
     -- while they are fewer than the count, the run holds them
-    waiting : (vs : List ℤ) → EachBeyond side k vs → length vs < samples capture → held side capture (numbers vs ++ before) ≡ extreme (Holds k) (streak_of side vs)
+    waiting : (vs : List ℤ) → EachBeyond side k vs → length vs < samples capture → held side capture (numbers vs ++ before) ≡ extreme (Some k) (streak_of side vs)
     unfolding numbers
     waiting [] b l = e
     waiting (v ∷ vs) b l =
@@ -227,12 +217,12 @@ module _ (side : Side) (capture : ℤ) where
         holds_next (numbers vs ++ before) k v vs (waiting vs (λ w o. b w (further v vs o)) (omega arith))
         ∙ is_over k v vs (b v (here vs)) (omega arith)
 
-    waits_by : (v : ℤ) (n : ℕ) (vs : List ℤ) → EachBeyond side k vs → length vs ≡ n → Closest side v vs → n < samples capture → held side capture (numbers vs ++ before) ≡ extreme (Holds k) (Lasts n v)
+    waits_by : (v : ℤ) (n : ℕ) (vs : List ℤ) → EachBeyond side k vs → length vs ≡ n → Closest side v vs → n < samples capture → held side capture (numbers vs ++ before) ≡ extreme (Some k) (Some (streak n v))
     waits_by v n [] b m c l = absurd (nothing_of c.one_of)
     waits_by v n (w ∷ vs) b m c l =
         waiting (w ∷ vs) b (omega arith)
-        ∙ ap (λ (x : ℤ). extreme (Holds k) (Lasts (suc (length vs)) x)) (closest_only side _ v (w ∷ vs) (closest_of side w vs) c)
-        ∙ ap (λ (x : ℕ). extreme (Holds k) (Lasts x v)) m
+        ∙ ap (λ (x : ℤ). extreme (Some k) (Some (streak (suc (length vs)) x))) (closest_only side _ v (w ∷ vs) (closest_of side w vs) c)
+        ∙ ap (λ (x : ℕ). extreme (Some k) (Some (streak x v))) m
 
     completes_by : (t : ℤ) (vs : List ℤ) → EachBeyond side k vs → length vs ≡ samples capture → Closest side t vs → held side capture (numbers vs ++ before) ≡ taken t
     completes_by t [] b m c = absurd (nothing_of c.one_of)
@@ -240,10 +230,10 @@ module _ (side : Side) (capture : ℤ) where
 
   -- ---- what a run remembers
 
-  remembers_by : (h : List Event) (kept : Kept) (v : ℤ) (n : ℕ) → held side capture h ≡ extreme kept (Lasts n v) → Standing h (held side capture h) → (k : ℤ) × (kept ≡ Holds k) × Ran side capture h k n v
+  remembers_by : (h : List Event) (kept : Option ℤ) (v : ℤ) (n : ℕ) → held side capture h ≡ extreme kept (Some (streak n v)) → Standing h (held side capture h) → (k : ℤ) × (kept ≡ Some k) × Ran side capture h k n v
   unfolding closest_in
-  remembers_by h kept v n p (none e) = absurd (idle≢lasts n v (ap (λ (x : Extreme). x.run) (sym e ∙ p)))
-  remembers_by h kept v n p (some k [] s e) = absurd (idle≢lasts n v (ap (λ (x : Extreme). x.run) (sym e ∙ p)))
+  remembers_by h kept v n p (none e) = absurd (none≢some (streak n v) (ap (λ (x : Extreme). x.run) (sym e ∙ p)))
+  remembers_by h kept v n p (some k [] s e) = absurd (none≢some (streak n v) (ap (λ (x : Extreme). x.run) (sym e ∙ p)))
   remembers_by h kept v n p (some k (w ∷ vs) s e) =
       let q = sym e ∙ p in
       let many : suc (length vs) ≡ n = ap (λ (x : Extreme). so_many x.run) q in
@@ -257,9 +247,9 @@ module _ (side : Side) (capture : ℤ) where
       let many : suc (length (newer ++ older)) ≡ samples capture = sym (one_less v newer older) ∙ ap length (sym e) ∙ run.so_many in
       (omega arith, λ w o. run.closest.none_nearer w (rw e (with_one w v newer older o)))
 
-  at_once_by : (k v : ℤ) (t : Bool) → beyond side v k ≡ t → samples capture ≡ 1 → sampled side capture (extreme (Holds k) Idle) (Number v) ≡ cond t (taken v) (extreme (Holds k) Idle)
-  at_once_by k v true e one = laws.completes side capture k v Idle e (omega arith)
-  at_once_by k v false e one = laws.breaks side capture k v Idle e
+  at_once_by : (k v : ℤ) (t : Bool) → beyond side v k ≡ t → samples capture ≡ 1 → sampled side capture (extreme (Some k) None) (Number v) ≡ cond t (taken v) (extreme (Some k) None)
+  at_once_by k v true e one = laws.completes side capture k v None e (omega arith)
+  at_once_by k v false e one = laws.breaks side capture k v None e
 
   one_by : (h : List Event) (v : ℤ) → samples capture ≡ 1 → Standing h (held side capture h) → held side capture (sample (Number v) ∷ h) ≡ at_once side (held side capture h).kept v
   unfolding leaves

@@ -1,14 +1,12 @@
 -- Worked cases of max and min.
-use Rattle.std.specs.Prelude.{List, [], ◌∷◌, ℕ, ℤ, pos}
+use Rattle.std.specs.Prelude.{List, [], ◌∷◌, ℕ, ℤ, pos, None, Some}
 use Rattle.exact.specs.Sign.{minus}
 use Rattle.reading.specs.declared.Reading.{Reading}
 use Rattle.reading.specs.declared.Reading.TheVariants.{Nothing, Under, Number, Over}
 use Rattle.extremes.specs.declared.Side.{Side}
 use Rattle.extremes.specs.declared.Side.TheVariants.{Max, Min}
-use Rattle.extremes.specs.declared.Kept.TheVariants.{Empty, Holds}
-use Rattle.extremes.specs.declared.Streak.TheVariants.{Idle, Lasts}
 use Rattle.extremes.specs.declared.Extreme.{Extreme}
-use Rattle.extremes.specs.Extremes.{extreme, taken, sampled}
+use Rattle.extremes.specs.Extremes.{extreme, streak, taken, sampled}
 
 -- samples one after the other, the first one first
 unfoldable pub after : Side → ℤ → Extreme → List Reading → Extreme
@@ -32,7 +30,7 @@ at v = taken (pos v)
 
 -- v is kept, and a run of so many readings goes on, which remembers w
 abbrev running : ℕ → ℕ → ℕ → Extreme
-running v many w = extreme (Holds (pos v)) (Lasts many (pos w))
+running v many w = extreme (Some (pos v)) (Some (streak many (pos w)))
 
 unfoldable pub cases : List Case
 cases =
@@ -54,7 +52,7 @@ cases =
     -- no capture time: one sample is enough
     ∷ record { side = Max; capture = pos 0; first = at 100; readings = n 101 ∷ n 500 ∷ []; last = at 500 }
     -- the first number is taken at once, whatever the capture time
-    ∷ record { side = Max; capture = pos 32750; first = extreme Empty Idle; readings = Over ∷ n 7 ∷ []; last = at 7 }
+    ∷ record { side = Max; capture = pos 32750; first = extreme None None; readings = Over ∷ n 7 ∷ []; last = at 7 }
     -- min, below: the greatest is taken
     ∷ record { side = Min; capture = pos 2; first = at 100; readings = n 95 ∷ n 91 ∷ n 92 ∷ Number (minus 500) ∷ []; last = at 95 }
     ∷ record { side = Min; capture = pos 2; first = at 100; readings = n 95 ∷ n 97 ∷ Number (minus 500) ∷ []; last = running 100 3 97 }

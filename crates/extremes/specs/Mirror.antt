@@ -1,15 +1,12 @@
 -- Readings, sides and what is kept, seen from the other side of zero.
-use Rattle.std.specs.Prelude.{List, map, neg_ℤ}
+use Rattle.std.specs.Prelude.{List, map, Option, None, Some, ℤ, neg_ℤ}
 use Rattle.reading.specs.declared.Reading.{Reading}
 use Rattle.reading.specs.declared.Reading.TheVariants.{Nothing, Under, Number, Over}
 use Rattle.extremes.specs.declared.Side.{Side}
 use Rattle.extremes.specs.declared.Side.TheVariants.{Max, Min}
-use Rattle.extremes.specs.declared.Kept.{Kept}
-use Rattle.extremes.specs.declared.Kept.TheVariants.{Empty, Holds}
 use Rattle.extremes.specs.declared.Streak.{Streak}
-use Rattle.extremes.specs.declared.Streak.TheVariants.{Idle, Lasts}
 use Rattle.extremes.specs.declared.Extreme.{Extreme}
-use Rattle.extremes.specs.Extremes.{extreme}
+use Rattle.extremes.specs.Extremes.{extreme, streak}
 use Rattle.extremes.specs.History.{Event, sample, reset_key}
 
 -- max for min, min for max
@@ -24,14 +21,14 @@ negated Under = Over
 negated (Number v) = Number (neg_ℤ v)
 negated Over = Under
 
-unfoldable pub negated_kept : Kept → Kept
-negated_kept Empty = Empty
-negated_kept (Holds v) = Holds (neg_ℤ v)
+unfoldable pub negated_kept : Option ℤ → Option ℤ
+negated_kept None = None
+negated_kept (Some v) = Some (neg_ℤ v)
 
 -- a run has as many readings from both sides
-unfoldable pub negated_run : Streak → Streak
-negated_run Idle = Idle
-negated_run (Lasts n v) = Lasts n (neg_ℤ v)
+unfoldable pub negated_run : Option Streak → Option Streak
+negated_run None = None
+negated_run (Some s) = Some (streak s.readings (neg_ℤ s.nearest))
 
 abbrev pub negated_extreme : Extreme → Extreme
 negated_extreme e = extreme (negated_kept e.kept) (negated_run e.run)

@@ -1,14 +1,11 @@
 -- What a completed run gives, said from the history alone.
-use Rattle.std.specs.Prelude.{◌≡◌, true, false, cond, List, ◌∷◌, ◌++◌, ◌≢◌, ℕ, ◌≤◌, ◌<◌, ℤ, length}
+use Rattle.std.specs.Prelude.{◌≡◌, true, false, cond, List, ◌∷◌, ◌++◌, Option, None, Some, ◌≢◌, ℕ, ◌≤◌, ◌<◌, ℤ, length}
 use Rattle.reading.specs.declared.Reading.{Reading}
 use Rattle.reading.specs.declared.Reading.TheVariants.{Number}
 use Rattle.run.specs.Run.{samples}
 use Rattle.extremes.specs.declared.Side.{Side}
-use Rattle.extremes.specs.declared.Kept.{Kept}
-use Rattle.extremes.specs.declared.Kept.TheVariants.{Empty, Holds}
-use Rattle.extremes.specs.declared.Streak.TheVariants.{Idle, Lasts}
 use Rattle.extremes.specs.declared.Extreme.{Extreme}
-use Rattle.extremes.specs.Extremes.{extreme, taken, beyond}
+use Rattle.extremes.specs.Extremes.{extreme, streak, taken, beyond}
 use Rattle.extremes.specs.History.{Event, sample, held, numbers}
 
 -- v is one of some numbers
@@ -31,27 +28,27 @@ pub record Ran (side : Side) (capture : ℤ) (h : List Event) (k : ℤ) (n : ℕ
   pub readings : List ℤ
   pub before : List Event
   pub newest : h ≡ numbers readings ++ before
-  pub none_before : held side capture before ≡ extreme (Holds k) Idle
+  pub none_before : held side capture before ≡ extreme (Some k) None
   pub each_beyond : EachBeyond side k readings
   pub so_many : length readings ≡ n
   pub closest : Closest side v readings
 
 -- each number beyond the kept one taken at once, as the rule for a count of 1 always was
-abbrev pub at_once : Side → Kept → ℤ → Extreme
-at_once side Empty v = taken v
-at_once side (Holds k) v = cond (beyond side v k) (taken v) (extreme (Holds k) Idle)
+abbrev pub at_once : Side → Option ℤ → ℤ → Extreme
+at_once side None v = taken v
+at_once side (Some k) v = cond (beyond side v k) (taken v) (extreme (Some k) None)
 
 -- document 02's rule, for max and for min, with any capture time, after any history since power-up
 pub record Takes (side : Side) (capture : ℤ) (h : List Event) : Type 0 where
   -- where a sample changes the number that is kept, it completes a run, of exactly as many readings as the capture time counts, and
   -- what is taken is the closest of them
-  pub takes : (r : Reading) (k t : ℤ) → (held side capture h).kept ≡ Holds k → (held side capture (sample r ∷ h)).kept ≡ Holds t → t ≢ k → Ran side capture (sample r ∷ h) k (samples capture) t
+  pub takes : (r : Reading) (k t : ℤ) → (held side capture h).kept ≡ Some k → (held side capture (sample r ∷ h)).kept ≡ Some t → t ≢ k → Ran side capture (sample r ∷ h) k (samples capture) t
   -- and where so many readings are a run, the closest of them is taken
   pub completes : (k t : ℤ) → Ran side capture h k (samples capture) t → held side capture h ≡ taken t
   -- with fewer nothing is taken: k stays, and the run remembers how many they are and the closest of them
-  pub waits : (k v : ℤ) (n : ℕ) → Ran side capture h k n v → n < samples capture → held side capture h ≡ extreme (Holds k) (Lasts n v)
+  pub waits : (k v : ℤ) (n : ℕ) → Ran side capture h k n v → n < samples capture → held side capture h ≡ extreme (Some k) (Some (streak n v))
   -- nor does a run remember anything else
-  pub remembers : (kept : Kept) (v : ℤ) (n : ℕ) → held side capture h ≡ extreme kept (Lasts n v) → (k : ℤ) × (kept ≡ Holds k) × Ran side capture h k n v
+  pub remembers : (kept : Option ℤ) (v : ℤ) (n : ℕ) → held side capture h ≡ extreme kept (Some (streak n v)) → (k : ℤ) × (kept ≡ Some k) × Ran side capture h k n v
   -- with a count of 2 or more no reading is taken that lies alone: whichever one of a run is left out, there are others, and what is taken
   -- is no farther out than any of them
   pub not_alone : (k t : ℤ) (run : Ran side capture h k (samples capture) t) → 2 ≤ samples capture → (newer older : List ℤ) (v : ℤ) → run.readings ≡ newer ++ v ∷ older → (1 ≤ length (newer ++ older)) × ((w : ℤ) → OneOf w (newer ++ older) → beyond side t w ≡ false)

@@ -22,14 +22,12 @@ pub struct Measured {
 pub fn powered_up() -> Measured
     ensures { result ≡ powered_up }
 {
-    let total = total::reset();
-    let max = extremes::reset(Reading::Nothing);
-    let min = extremes::reset(Reading::Nothing);
+    let reading = Reading::Nothing;
     Measured {
-        reading: Reading::Nothing,
-        total,
-        max,
-        min,
+        reading,
+        total: total::reset(),
+        max: extremes::reset(reading),
+        min: extremes::reset(reading),
     }
 }
 
@@ -39,16 +37,11 @@ pub fn sampled(working: Working, m: Measured, reading: Reading) -> Measured
     requires ranged { in_range working.totalizer m.total ≡ true }
     ensures { result ≡ sampled working m reading }
 {
-    let totalizer = working.totalizer;
-    let capture = working.capture;
-    let total = total::sampled(totalizer, m.total, reading);
-    let max = extremes::sampled(Side::Max, capture, m.max, reading);
-    let min = extremes::sampled(Side::Min, capture, m.min, reading);
     Measured {
         reading,
-        total,
-        max,
-        min,
+        total: total::sampled(working.totalizer, m.total, reading),
+        max: extremes::sampled(Side::Max, working.capture, m.max, reading),
+        min: extremes::sampled(Side::Min, working.capture, m.min, reading),
     }
 }
 
@@ -56,29 +49,30 @@ pub fn sampled(working: Working, m: Measured, reading: Reading) -> Measured
 pub fn reset_total(m: Measured) -> Measured
     ensures { result ≡ reset_total m }
 {
-    let mut n = m;
-    n.total = total::reset();
-    n
+    Measured {
+        total: total::reset(),
+        ..m
+    }
 }
 
 // Max takes the present reading if it is a number, else none.
 pub fn reset_max(m: Measured) -> Measured
     ensures { result ≡ reset_max m }
 {
-    let reading = m.reading;
-    let mut n = m;
-    n.max = extremes::reset(reading);
-    n
+    Measured {
+        max: extremes::reset(m.reading),
+        ..m
+    }
 }
 
 // Min likewise.
 pub fn reset_min(m: Measured) -> Measured
     ensures { result ≡ reset_min m }
 {
-    let reading = m.reading;
-    let mut n = m;
-    n.min = extremes::reset(reading);
-    n
+    Measured {
+        min: extremes::reset(m.reading),
+        ..m
+    }
 }
 
 // Key 1 in a meter set for batch.
@@ -87,22 +81,20 @@ pub fn batched(working: Working, m: Measured) -> Measured
     requires ranged { in_range working.totalizer m.total ≡ true }
     ensures { result ≡ batched working m }
 {
-    let totalizer = working.totalizer;
-    let reading = m.reading;
-    let mut n = m;
-    n.total = total::batched(totalizer, m.total, reading);
-    n
+    Measured {
+        total: total::batched(working.totalizer, m.total, m.reading),
+        ..m
+    }
 }
 
-// Whether all of it can be shown and counted on.
+// Whether all of it can be shown and counted on. Every event of a meter is judged by it, so no test ends it early.
+#[tactic(auto, unfolding(crate::specs::Measured::sound))]
 pub fn is_sound(working: Working, m: Measured) -> bool
     requires { Timed working.totalizer }
     ensures { result ≡ sound working m }
 {
-    let totalizer = working.totalizer;
-    let reading = m.reading;
-    reading::is_displayable(reading)
+    reading::is_displayable(m.reading)
         & extremes::is_sound(m.max)
         & extremes::is_sound(m.min)
-        & total::is_in_range(totalizer, m.total)
+        & total::is_in_range(working.totalizer, m.total)
 }

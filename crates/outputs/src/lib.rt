@@ -1,4 +1,7 @@
 // How the outputs are driven: the analog code, automatic or manual mode, and the status number, which is stored with them.
+//
+// Four alarms as bits and analog displays that differ are asked in clauses, and no type holds them: the calls are promised for plain numbers,
+// and a type would ask more of whoever has these.
 #![tactic(auto)]
 
 ghost use Rattle.std.specs.Prelude.{◌≡◌, false, ◌≤◌};
@@ -8,7 +11,7 @@ ghost use Rattle.outputs.specs.Outputs.{status, driving, powered_up, sampled, co
 use config::Working;
 use reading::Reading;
 
-// Automatic, or manual with the four outputs as bits 0 to 3.
+// Automatic, or manual with the four outputs as bits 0 to 3: two states with names of their own, and no byte that may be missing.
 #[derive(Clone, Copy)]
 pub enum Mode {
     Automatic,
@@ -24,13 +27,14 @@ pub struct Outputs {
 }
 
 // The status number, with the alarms that are on as bits.
+#[tactic(auto, unfolding(crate::specs::Outputs::status))]
 fn status(mode: Mode, on: u32) -> u16
     requires { on ≤ 15 }
     ensures { result ≡ status mode on }
 {
     match mode {
         Mode::Automatic => on as u16,
-        Mode::Manual(bits) => 16 + bits as u16,
+        Mode::Manual(bits) => 16 + u16::from(bits),
     }
 }
 
@@ -54,13 +58,13 @@ pub fn powered_up() -> Outputs
 }
 
 // The analog code: worked out in automatic mode, left standing in manual mode.
+#[tactic(auto, unfolding(crate::specs::Outputs::coded))]
 fn coded(working: Working, mode: Mode, code: i32, reading: Reading) -> i32
     requires { eq_z working.analog.low working.analog.high ≡ false }
     ensures { result ≡ coded working mode code reading }
 {
-    let analog = working.analog;
     match mode {
-        Mode::Automatic => analog::code_of(analog.low, analog.high, reading),
+        Mode::Automatic => analog::code_of(working.analog.low, working.analog.high, reading),
         Mode::Manual(_) => code,
     }
 }
@@ -71,16 +75,7 @@ pub fn sampled(working: Working, o: Outputs, on: u32, reading: Reading) -> Outpu
     requires on_bound { on ≤ 15 }
     ensures { result ≡ sampled working o on reading }
 {
-    let mode = o.mode;
-    driving(coded(working, mode, o.code, reading), mode, on)
-}
-
-// New outputs whose code stands.
-fn with_mode(o: Outputs, mode: Mode, on: u32) -> Outputs
-    requires { on ≤ 15 }
-    ensures { result ≡ driving o.code mode on }
-{
-    driving(o.code, mode, on)
+    driving(coded(working, o.mode, o.code, reading), o.mode, on)
 }
 
 // A reset of alarms, with those that it leaves on.
@@ -88,27 +83,21 @@ pub fn alarms_reset(o: Outputs, on: u32) -> Outputs
     requires { on ≤ 15 }
     ensures { result ≡ alarms_reset o on }
 {
-    let mode = o.mode;
-    with_mode(o, mode, on)
+    driving(o.code, o.mode, on)
 }
 
 // Whether the mode is automatic.
 pub fn is_automatic(mode: Mode) -> bool
     ensures { result ≡ automatic mode }
 {
-    match mode {
-        Mode::Automatic => true,
-        Mode::Manual(_) => false,
-    }
+    matches!(mode, Mode::Automatic)
 }
 
 // V of the analog register.
 pub fn write_code(o: Outputs, z: i32) -> Outputs
     ensures { result ≡ write_code o z }
 {
-    let mut n = o;
-    n.code = z;
-    n
+    Outputs { code: z, ..o }
 }
 
 // VJ with bit 4 set: the four bits below it drive the outputs, and the last code stands.
@@ -116,7 +105,7 @@ pub fn to_manual(o: Outputs, on: u32, b: u8) -> Outputs
     requires { on ≤ 15 }
     ensures { result ≡ to_manual o on b }
 {
-    with_mode(o, Mode::Manual(b % 16), on)
+    driving(o.code, Mode::Manual(b % 16), on)
 }
 
 // VJ with bit 4 clear: the code of the present reading at once.
@@ -125,22 +114,19 @@ pub fn to_automatic(working: Working, on: u32, reading: Reading) -> Outputs
     requires on_bound { on ≤ 15 }
     ensures { result ≡ to_automatic working on reading }
 {
-    let analog = working.analog;
-    driving(
-        analog::code_of(analog.low, analog.high, reading),
-        Mode::Automatic,
-        on,
-    )
+    let code = analog::code_of(working.analog.low, working.analog.high, reading);
+    driving(code, Mode::Automatic, on)
 }
 
 // Whether a number is an analog code.
 fn in_code(z: i32) -> bool
     ensures { result ≡ in_code z }
 {
-    (0 <= z) & (z <= 4095)
+    (0..=4095).contains(&z)
 }
 
 // Whether the code is one that can be shown.
+#[tactic(auto, unfolding(crate::specs::Outputs::sound))]
 pub fn is_sound(o: Outputs) -> bool
     ensures { result ≡ sound o }
 {

@@ -1,16 +1,17 @@
--- `alarms::setpoints` meets its contract: each setpoint as it stands. Assumes nothing.
-use borrow.Author.Rules.{rules}
-use mathlib.Core.Path.{◌≡◌}
-use mir.Syntax.{w32}
-use mir.Val.{to_z, of_z}
-use Rattle.alarms.specs.Alarms.{setpoint_of}
+-- `alarms::setpoints` meets its contract: the setpoint of each of the four alarms. Assumes nothing.
+use Rattle.std.proofs.Common.{◌≡◌, ℕ, ◌<◌, pos, rules, arith}
+use Rattle.std.proofs.Math.Seq.{ext_get_or}
+use Rattle.std.proofs.Math.ListN.{get_or}
+use Rattle.alarm.specs.Alarm.{off}
+use Rattle.alarms.specs.Alarms.{setpoint_of, setpoints}
+use Rattle.alarms.proofs.Four.{each_of_four}
 use Rattle.alarms.proofs.setpoints.Goals as goal
 
 pub returns : goal.returns
 returns c =
-    let s = c in
-    let sp0 : to_z w32 (of_z w32 (setpoint_of s.args.alarms 0)) ≡ setpoint_of s.args.alarms 0 = search rules in
-    let sp1 : to_z w32 (of_z w32 (setpoint_of s.args.alarms 1)) ≡ setpoint_of s.args.alarms 1 = search rules in
-    let sp2 : to_z w32 (of_z w32 (setpoint_of s.args.alarms 2)) ≡ setpoint_of s.args.alarms 2 = search rules in
-    let sp3 : to_z w32 (of_z w32 (setpoint_of s.args.alarms 3)) ≡ setpoint_of s.args.alarms 3 = search rules in
-    rw (sp0, sp1, sp2, sp3)
+    let l = c.args.alarms in
+    let items = c.map.ensures.items in
+    let at : (k : ℕ) → k < 4 → get_or c.map.result k (pos 0) ≡ setpoint_of l k = λ k h. let called = (items.at k (off (pos 0)) (pos 0) h).2 in search rules in
+    ext_get_or (pos 0) c.map.result (setpoints l) items.long
+    (λ k h. each_of_four (λ (k : ℕ). get_or c.map.result k (pos 0) ≡ get_or (setpoints l) k (pos 0))
+    (at 0 (omega arith)) (at 1 (omega arith)) (at 2 (omega arith)) (at 3 (omega arith)) k (omega (arith, items.long)))
