@@ -14,7 +14,7 @@ use Rattle.reading.specs.declared.Reading.{Reading}
 use Rattle.reading.specs.declared.Reading.TheVariants.{Nothing, Under, Number, Over}
 use Rattle.config.specs.Config as configs
 use Rattle.config.specs.declared.Config.{Config}
-use Rattle.config.specs.declared.Verdict.TheVariants.{Accepted}
+use Rattle.config.specs.Verdict.{Accepted}
 use Rattle.config.proofs.Acceptance.{scale_accepted}
 use Rattle.source.proofs.Laws as sources
 use Rattle.segments.specs.Segments.{segments_of, read_on, read, can_scale}

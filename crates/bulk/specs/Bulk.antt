@@ -5,7 +5,7 @@ use Rattle.reading.specs.declared.Reading.{Reading}
 use Rattle.reading.specs.declared.Reading.TheVariants.{Nothing, Under, Number, Over}
 use Rattle.config.specs.Config.{judged}
 use Rattle.config.specs.declared.Config.{Config}
-use Rattle.config.specs.declared.Verdict.TheVariants.{Accepted}
+use Rattle.config.specs.Verdict.{Accepted}
 use Rattle.source.specs.Source.{reading_by}
 use Rattle.segments.specs.Segments.{segments_of, read, can_scale}
 use Rattle.segments.specs.declared.Segments.{Segments}

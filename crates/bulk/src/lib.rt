@@ -27,24 +27,12 @@ pub fn read_all(s: Segments, inputs: &[i32], readings: &mut [i32]) -> Answer
     ensures value { result ≡ answered s }
     ensures readings_after { readings.new ≡ left s inputs.now readings.old }
 {
-    let source = s.source;
-    let last = s.last;
-    let step = s.step;
-    let starts = s.inputs;
-    let displays = s.displays;
-    let rises = s.rises;
-    let runs = s.runs;
-    if !scaling::is_tested(step, last, rises, runs) {
+    if !scaling::can_scale(&s) {
         return Answer::NotStarted;
     }
-    let at = last as usize;
-    let mut i = 0;
-    while (i < inputs.len()) & (i < readings.len()) {
-        let r = scaling::reading_of(
-            source, &starts, &displays, &rises, &runs, at, step, inputs[i],
-        );
-        readings[i] = number_of(r);
-        i += 1;
+    // By place, since of what is written through `iter_mut` no more than the length is known afterwards.
+    for i in 0..inputs.len().min(readings.len()) {
+        readings[i] = number_of(scaling::read(&s, inputs[i]));
     }
     Answer::Done
 }

@@ -15,7 +15,7 @@ use Rattle.config.specs.Config.{node_rule, places_rule, input_places, step_rule,
 use Rattle.config.specs.Accepted.{Measurable}
 use Rattle.config.specs.declared.Config.{Config}
 use Rattle.config.specs.declared.Source.TheVariants.{Points}
-use Rattle.config.specs.declared.Verdict.TheVariants.{Accepted}
+use Rattle.config.specs.Verdict.{Accepted}
 use Rattle.config.proofs.Verdicts.{accepted}
 
 -- ---- rule by rule

@@ -7,11 +7,13 @@ use mathlib.Core.Logic.{◌↔◌}
 use Prim.Native.Nat.{ℕ, zero, suc, ◌+◌, ◌<◌}
 use native.Mathlib.Omega.{arith}
 use lib.ListN.{length}
+use Rattle.std.specs.Prelude.{Ok, Err}
 use Rattle.exact.proofs.Z.{never}
 use Rattle.config.specs.Config.{rules, first_broken, judged}
 use Rattle.config.specs.Meaning.{kept_at, AllKept, BreaksFirst}
 use Rattle.config.specs.declared.Config.{Config}
-use Rattle.config.specs.declared.Verdict.TheVariants.{Accepted, Broken}
+use Rattle.config.specs.declared.Rule.{Rule}
+use Rattle.config.specs.Verdict.{Accepted, Broken, unless}
 
 -- ---- one rule
 
@@ -22,6 +24,15 @@ passes n kept rest e = rw e
 pub breaks : (n : ℕ) (kept : Bool) (rest : List Bool) → kept ≡ false → first_broken n (kept ∷ rest) ≡ Broken n
 unfolding first_broken
 breaks n kept rest e = rw e
+
+-- what is told where a rule is kept, and where it is broken
+pub passed : (rule : Rule) (kept : Bool) (u : Unit {0}) → unless rule kept ≡ Ok u → kept ≡ true
+passed rule true u e = refl
+passed rule false u e = cc
+
+pub failed : (rule : Rule) (kept : Bool) (broken : Rule) → unless rule kept ≡ Err broken → (kept ≡ false) × (broken ≡ rule)
+failed rule true broken e = cc
+failed rule false broken e = (refl, cc)
 
 -- ---- all rules
 

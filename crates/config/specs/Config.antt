@@ -12,8 +12,7 @@ use Rattle.config.specs.declared.Source.TheVariants.{Points, Platinum}
 use Rattle.config.specs.declared.Scale.{Scale}
 use Rattle.config.specs.declared.Analog.{Analog}
 use Rattle.config.specs.declared.Config.{Config}
-use Rattle.config.specs.declared.Verdict.{Verdict}
-use Rattle.config.specs.declared.Verdict.TheVariants.{Accepted, Broken}
+use Rattle.config.specs.Verdict.{Verdict, Accepted, Broken}
 
 -- ---- the rules
 

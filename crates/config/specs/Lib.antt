@@ -1,3 +1,4 @@
+pub mod Verdict
 pub mod Config
 pub mod Meaning
 pub mod Accepted

@@ -6,13 +6,13 @@ use Rattle.total.specs.declared.Totalizer.{Totalizer}
 use Rattle.alarm.specs.declared.Settings.{Settings}
 use Rattle.config.specs.Bench.{bench_meter}
 use Rattle.config.specs.Config.{judged}
+use Rattle.config.specs.Verdict.{Verdict, Accepted, Broken, rule_number}
+use Rattle.config.specs.declared.Rule.TheVariants.{Node, Places, RoundingStep, PointCount, Points, Total, LowCut, Alarms, Capture, Analog}
 use Rattle.config.specs.declared.Scale.{Scale}
 use Rattle.config.specs.declared.Source.TheVariants.{Platinum}
 use Rattle.config.specs.declared.Working.{Working}
 use Rattle.config.specs.declared.Talking.{Talking}
 use Rattle.config.specs.declared.Config.{Config}
-use Rattle.config.specs.declared.Verdict.{Verdict}
-use Rattle.config.specs.declared.Verdict.TheVariants.{Accepted, Broken}
 
 -- ---- what is changed in a configuration
 
@@ -213,7 +213,13 @@ rows =
     ++ map (sensed (λ c. c)) (alike ++ by_platinum)
     ++ map (sensed (λ c. count (pos 17) (input 1 (pos 0) c))) by_both
 
--- ---- the claim
+-- ---- the claims
+
+-- the rules are numbered in document 01's order
+abbrev pub NumbersHold : Type 0
+NumbersHold =
+    map rule_number (Node ∷ Places ∷ RoundingStep ∷ PointCount ∷ Points ∷ Total ∷ LowCut ∷ Alarms ∷ Capture ∷ Analog ∷ [])
+    ≡ 1 ∷ 2 ∷ 3 ∷ 4 ∷ 5 ∷ 6 ∷ 7 ∷ 8 ∷ 9 ∷ 10 ∷ []
 
 abbrev pub LimitsHold : Type 0
 LimitsHold = map (λ (r : Row). judged (r.change good)) rows ≡ map (λ (r : Row). r.verdict) rows

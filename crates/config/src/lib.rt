@@ -2,8 +2,8 @@
 #![tactic(auto)]
 
 ghost use Rattle.std.specs.Prelude.{◌≡◌, true};
-ghost use Rattle.alarm.specs.Alarm.{no_settings};
 ghost use Rattle.config.specs.Config.{places_rule, input_places, places_rule_by, point_count, count_rule, points_rule, total_rule, alarm_rule, alarms_rule, analog_rule, judged};
+ghost use Rattle.config.specs.Verdict.{rule_number, unless, verdict_of};
 ghost use Rattle.config.specs.Bench.{nothing, bench_meter};
 
 use alarm::Settings;
@@ -69,11 +69,35 @@ pub struct Config {
     pub setpoints: [i32; 4],
 }
 
-// What the rules say: all kept, or the number of the first that is broken.
-#[derive(Clone, Copy)]
-pub enum Verdict {
-    Accepted,
-    Broken(u32),
+// The ten rules, in document 01's order and under its numbers.
+#[derive(Clone, Copy, Debug, PartialEq, Eq)]
+pub enum Rule {
+    Node = 1,
+    Places,
+    RoundingStep,
+    PointCount,
+    Points,
+    Total,
+    LowCut,
+    Alarms,
+    Capture,
+    Analog,
+}
+
+impl Rule {
+    // A rule's number in document 01.
+    pub fn number(self) -> u32
+        ensures { result ≡ rule_number self }
+    {
+        self as u32
+    }
+
+    // Nothing where the rule is kept, and where it is broken the rule.
+    fn unless(self, kept: bool) -> Result<(), Rule>
+        ensures { result ≡ unless self kept }
+    {
+        if kept { Ok(()) } else { Err(self) }
+    }
 }
 
 // Rule 4: the number of points, where the reading comes from them.
@@ -87,16 +111,12 @@ fn count_rule(source: Source, count: i32) -> bool
 }
 
 // Rule 5: the points in use, where the reading comes from them.
-fn points_rule(s: Scale) -> bool
-    requires { count_rule s ≡ true }
-    ensures { result ≡ points_rule s }
+fn points_rule(s: &Scale) -> bool
+    requires { count_rule s.now ≡ true }
+    ensures { result ≡ points_rule s.now }
 {
-    let source = s.source;
-    match source {
-        Source::Points => {
-            let count = s.count as usize;
-            reading::points_in(&s.inputs, &s.displays, count)
-        }
+    match s.source {
+        Source::Points => reading::points_in(&s.inputs, &s.displays, s.count as usize),
         Source::Platinum => true,
     }
 }
@@ -108,32 +128,31 @@ const TIME_BASES: [i32; 4] = [1, 60, 3600, 86400];
 fn total_rule(t: Totalizer) -> bool
     ensures { result ≡ total_rule t }
 {
-    exact::is_within(t.factor, 1, 65000) & exact::among(t.time_base, &TIME_BASES)
+    exact::is_within(t.factor, 1, 65000) && exact::among(t.time_base, &TIME_BASES)
 }
 
 // Rule 8 of one alarm.
+#[tactic(auto, unfolding(crate::specs::Config::alarm_rule))]
 fn alarm_rule(setpoint: i32, s: Settings) -> bool
     ensures { result ≡ alarm_rule setpoint s }
 {
-    let a = exact::is_within(setpoint, -19999, 99999);
-    let b = exact::is_within(s.hysteresis, 1, 9999);
-    let c = exact::is_within(s.on_delay, 0, 32750);
-    let d = exact::is_within(s.off_delay, 0, 32750);
-    a & b & c & d
+    exact::is_within(setpoint, -19999, 99999)
+        && exact::is_within(s.hysteresis, 1, 9999)
+        && exact::is_within(s.on_delay, 0, 32750)
+        && exact::is_within(s.off_delay, 0, 32750)
 }
 
 // Rule 8.
-fn alarms_rule(setpoints: [i32; 4], alarms: [Settings; 4]) -> bool
-    ensures { result ≡ alarms_rule setpoints alarms }
+fn alarms_rule(setpoints: &[i32; 4], alarms: &[Settings; 4]) -> bool
+    ensures { result ≡ alarms_rule setpoints.now alarms.now }
 {
-    let a = alarm_rule(setpoints[0], alarms[0]);
-    let b = alarm_rule(setpoints[1], alarms[1]);
-    let c = alarm_rule(setpoints[2], alarms[2]);
-    let d = alarm_rule(setpoints[3], alarms[3]);
-    a & b & c & d
+    setpoints
+        .iter()
+        .zip(alarms.iter())
+        .all(|(setpoint, settings)| alarm_rule(*setpoint, *settings))
 }
 
-// The decimal places that a line can show.
+// The decimal places that a line can show. Every event of a meter asks for them, so the first test does not decide a jump.
 pub fn places_rule(p: Places) -> bool
     ensures { result ≡ places_rule p }
 {
@@ -154,7 +173,7 @@ fn input_places(source: Source, places: i32) -> bool
 fn places_rule_by(source: Source, p: Places) -> bool
     ensures { result ≡ places_rule_by source p }
 {
-    places_rule(p) & input_places(source, p.input)
+    places_rule(p) && input_places(source, p.input)
 }
 
 // Rule 10: the analog displays lie in the display range and differ.
@@ -162,74 +181,39 @@ fn analog_rule(a: Analog) -> bool
     ensures { result ≡ analog_rule a }
 {
     exact::is_within(a.low, -19999, 99999)
-        & exact::is_within(a.high, -19999, 99999)
-        & (a.low != a.high)
+        && exact::is_within(a.high, -19999, 99999)
+        && a.low != a.high
 }
 
-// The verdict: the first broken rule is reported, and none where all are kept.
-pub fn judged(c: Config) -> Verdict
-    ensures { result ≡ judged c }
+// Nothing where all rules are kept, and else the first that is broken.
+pub fn judged(c: Config) -> Result<(), Rule>
+    ensures { verdict_of result ≡ judged c }
 {
-    let scale = c.scale;
-    let source = scale.source;
-    let working = c.working;
-    let talking = c.talking;
-    let setpoints = c.setpoints;
-    let places = talking.places;
-    let totalizer = working.totalizer;
-    let alarms = working.alarms;
-    let analog = working.analog;
-    if !exact::is_within(talking.node, 0, 99) {
-        return Verdict::Broken(1);
-    }
-    if !places_rule_by(source, places) {
-        return Verdict::Broken(2);
-    }
-    if !exact::is_step(scale.step) {
-        return Verdict::Broken(3);
-    }
-    if !count_rule(source, scale.count) {
-        return Verdict::Broken(4);
-    }
-    if !points_rule(scale) {
-        return Verdict::Broken(5);
-    }
-    if !total_rule(totalizer) {
-        return Verdict::Broken(6);
-    }
-    if !exact::is_within(totalizer.low_cut, -19999, 99999) {
-        return Verdict::Broken(7);
-    }
-    if !alarms_rule(setpoints, alarms) {
-        return Verdict::Broken(8);
-    }
-    if !exact::is_within(working.capture, 0, 32750) {
-        return Verdict::Broken(9);
-    }
-    if !analog_rule(analog) {
-        return Verdict::Broken(10);
-    }
-    Verdict::Accepted
+    Rule::Node.unless(exact::is_within(c.talking.node, 0, 99))?;
+    Rule::Places.unless(places_rule_by(c.scale.source, c.talking.places))?;
+    Rule::RoundingStep.unless(exact::is_step(c.scale.step))?;
+    Rule::PointCount.unless(count_rule(c.scale.source, c.scale.count))?;
+    Rule::Points.unless(points_rule(&c.scale))?;
+    Rule::Total.unless(total_rule(c.working.totalizer))?;
+    Rule::LowCut.unless(exact::is_within(c.working.totalizer.low_cut, -19999, 99999))?;
+    Rule::Alarms.unless(alarms_rule(&c.setpoints, &c.working.alarms))?;
+    Rule::Capture.unless(exact::is_within(c.working.capture, 0, 32750))?;
+    Rule::Analog.unless(analog_rule(c.working.analog))
 }
 
 // An alarm with no hysteresis, no delay and nothing set.
-fn no_settings() -> Settings
-    ensures { result ≡ no_settings }
-{
-    Settings {
-        hysteresis: 0,
-        on_delay: 0,
-        off_delay: 0,
-        low_acting: false,
-        latched: false,
-    }
-}
+const NO_SETTINGS: Settings = Settings {
+    hysteresis: 0,
+    on_delay: 0,
+    off_delay: 0,
+    low_acting: false,
+    latched: false,
+};
 
 // A configuration with nothing in it, which a program may start from: it has no points to scale by.
 pub fn nothing() -> Config
     ensures { result ≡ nothing }
 {
-    let settings = no_settings();
     Config {
         scale: Scale {
             source: Source::Points,
@@ -246,7 +230,7 @@ pub fn nothing() -> Config
                 time_base: 0,
             },
             capture: 0,
-            alarms: [settings; 4],
+            alarms: [NO_SETTINGS; 4],
             analog: Analog { low: 0, high: 0 },
         },
         talking: Talking {
@@ -268,35 +252,37 @@ pub fn nothing() -> Config
 pub fn bench() -> Config
     ensures { result ≡ bench_meter }
 {
-    let mut settings = no_settings();
-    settings.hysteresis = 1;
-    let mut c = nothing();
-    let mut scale = c.scale;
+    let settings = Settings {
+        hysteresis: 1,
+        ..NO_SETTINGS
+    };
+    let nothing = nothing();
+    let mut scale = nothing.scale;
     scale.step = 1;
     scale.count = 2;
     scale.inputs[1] = 1000;
     scale.displays[1] = 2000;
-    let working = Working {
-        totalizer: Totalizer {
-            batch: false,
-            low_cut: -19999,
-            factor: 1000,
-            time_base: 60,
+    Config {
+        scale,
+        working: Working {
+            totalizer: Totalizer {
+                batch: false,
+                low_cut: -19999,
+                factor: 1000,
+                time_base: 60,
+            },
+            capture: 0,
+            alarms: [settings; 4],
+            analog: Analog {
+                low: 0,
+                high: 10000,
+            },
         },
-        capture: 0,
-        alarms: [settings; 4],
-        analog: Analog {
-            low: 0,
-            high: 10000,
+        talking: Talking {
+            node: 5,
+            places: Places { input: 1, total: 0 },
+            ..nothing.talking
         },
-    };
-    let places = Places { input: 1, total: 0 };
-    let mut talking = c.talking;
-    talking.node = 5;
-    talking.places = places;
-    c.scale = scale;
-    c.working = working;
-    c.talking = talking;
-    c.setpoints = [100, 200, 300, 400];
-    c
+        setpoints: [100, 200, 300, 400],
+    }
 }

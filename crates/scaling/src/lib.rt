@@ -2,11 +2,11 @@
 // of a platinum sensor where that is the source.
 #![tactic(auto)]
 
-ghost use Rattle.std.specs.Prelude.{◌≡◌, false, ℕ, ◌-◌, ◌≤◌, ◌<◌, pos, nat_abs};
+ghost use Rattle.std.specs.Prelude.{◌≡◌, false, ℕ, ◌≤◌, ◌<◌, ℤ, pos, nat_abs};
 ghost use Rattle.exact.specs.Sign.{is_neg};
-ghost use Rattle.reading.specs.Reading.{point, first_from, Scalable};
+ghost use Rattle.reading.specs.Reading.{first_from, Scalable};
 ghost use Rattle.config.specs.Accepted.{Measurable};
-ghost use Rattle.segments.specs.Segments.{start_of, difference_of, held, of_points, unused, no_segments, segments_of, along, read_on, read_by, read, segment_in, segments_in, tested, can_scale, Line, Readable};
+ghost use Rattle.segments.specs.Segments.{held, of_points, unused, no_segments, segments_of, along, read_on, read, segment_in, segments_in, can_scale, Line, Readable};
 
 use config::{Scale, Source};
 use reading::Reading;
@@ -34,55 +34,35 @@ pub fn none() -> Segments
     unused(Source::Points, 0)
 }
 
-// Where each segment of so many points starts, in inputs or in displays: segment k starts at point k.
-fn starts(points: &[i32; 16], count: usize) -> [i32; 15]
-    requires { count ≤ 16 }
-    ensures { result ≡ held (count - 1) (pos 0) (start_of points.now) }
+// A number for each segment in use, and one fixed number at every other place.
+fn held<F: Fn(usize) -> i32>(used: usize, unused: i32, number: F) -> [i32; 15]
+    requires used_bound { used ≤ 15 }
+    requires callable { (k : ℕ) → k < used → F.pre number k }
+    ensures { (f : ℕ → ℤ) → ((k : ℕ) (z : ℤ) → k < used → F.post number k z → z ≡ f k) → result ≡ held used unused f }
 {
-    let mut list = [0; 15];
-    let mut k = 0;
-    while k + 1 < count {
-        list[k] = points[k];
-        k += 1;
-    }
-    list
-}
-
-// How far each leads: segment k leads to point k + 1. A place that is not in use has the number that it is given.
-fn differences(points: &[i32; 16], count: usize, unused: i32) -> [i32; 15]
-    requires count_bound { count ≤ 16 }
-    requires by_index { (k : ℕ) → k < count → nat_abs (point points.now k) ≤ 99999 }
-    ensures { result ≡ held (count - 1) unused (difference_of points.now) }
-{
+    // No `array::from_fn`, whose closure would ask that `number` may be called at any place.
     let mut list = [unused; 15];
-    let mut k = 0;
-    while k + 1 < count {
-        list[k] = points[k + 1] - points[k];
-        k += 1;
+    for k in 0..used {
+        list[k] = number(k);
     }
     list
 }
 
-// The segments of a configuration's points.
-fn of_points(s: Scale) -> Segments
-    requires count_value { is_neg s.count ≡ false }
-    requires scalable { Scalable s.inputs s.displays (nat_abs s.count) s.step }
-    ensures { result ≡ of_points s }
+// The segments of a configuration's points: segment k starts at point k and leads to point k + 1.
+fn of_points(s: &Scale) -> Segments
+    requires count_value { is_neg s.now.count ≡ false }
+    requires scalable { Scalable s.now.inputs s.now.displays (nat_abs s.now.count) s.now.step }
+    ensures { result ≡ of_points s.now }
 {
-    let step = s.step;
-    let count = s.count as usize;
-    let inputs = starts(&s.inputs, count);
-    let displays = starts(&s.displays, count);
-    let rises = differences(&s.displays, count, 0);
-    let runs = differences(&s.inputs, count, 1);
+    let used = s.count as usize - 1;
     Segments {
         source: Source::Points,
-        step,
-        last: (count - 2) as u8,
-        inputs,
-        displays,
-        rises,
-        runs,
+        step: s.step,
+        last: (used - 1) as u8,
+        inputs: held(used, 0, |k| s.inputs[k]),
+        displays: held(used, 0, |k| s.displays[k]),
+        rises: held(used, 0, |k| s.displays[k + 1] - s.displays[k]),
+        runs: held(used, 1, |k| s.inputs[k + 1] - s.inputs[k]),
     }
 }
 
@@ -91,20 +71,20 @@ pub fn made(s: Scale) -> Segments
     requires { Measurable s }
     ensures { result ≡ segments_of s }
 {
-    let source = s.source;
-    match source {
-        Source::Points => of_points(s),
-        Source::Platinum => unused(source, s.step),
+    match s.source {
+        Source::Points => of_points(&s),
+        Source::Platinum => unused(Source::Platinum, s.step),
     }
 }
 
-// The first segment whose right end, where the next one starts, is not below the input, the last one where none is.
+// The first segment whose right end, where the next one starts, is not below the input, the last one where none is. Document 01 names the
+// form: a loop that yields the place by `break`.
 fn segment(inputs: &[i32; 15], last: usize, input: i32) -> usize
     requires { last < 15 }
     ensures { result ≡ first_from inputs.now input 0 last }
 {
     let mut i = 0;
-    let found = loop {
+    loop {
         if last <= i {
             break last;
         }
@@ -112,8 +92,7 @@ fn segment(inputs: &[i32; 15], last: usize, input: i32) -> usize
             break i;
         }
         i += 1;
-    };
-    found
+    }
 }
 
 // The line from a start with a rise over a run at x, as one exact fraction rounded to the nearest whole number.
@@ -129,17 +108,9 @@ fn along(input: i32, display: i32, rise: i32, run: i32, x: i32) -> i64
 }
 
 // The reading of an input by the segments up to the last.
-fn on_segments<'a>(
-    inputs: &'a [i32; 15],
-    displays: &'a [i32; 15],
-    rises: &'a [i32; 15],
-    runs: &'a [i32; 15],
-    last: usize,
-    step: i32,
-    input: i32,
-) -> Reading
-    requires { Readable rises.now runs.now last step }
-    ensures { result ≡ read_on inputs.now displays.now rises.now runs.now last step input }
+fn on_segments(s: &Segments, input: i32) -> Reading
+    requires { Readable s.now.rises s.now.runs s.now.last s.now.step }
+    ensures { result ≡ read_on s.now.inputs s.now.displays s.now.rises s.now.runs s.now.last s.now.step input }
 {
     if input > 99999 {
         return Reading::Over;
@@ -147,44 +118,20 @@ fn on_segments<'a>(
     if input < -99999 {
         return Reading::Under;
     }
-    let k = segment(inputs, last, input);
-    let whole = along(inputs[k], displays[k], rises[k], runs[k], input);
-    reading::judged(exact::to_step(whole, step as i64))
+    let k = segment(&s.inputs, s.last as usize, input);
+    let whole = along(s.inputs[k], s.displays[k], s.rises[k], s.runs[k], input);
+    reading::judged(exact::to_step(whole, s.step as i64))
 }
 
 // The reading of an input by its source: the one function that knows both.
-pub fn reading_of<'a>(
-    source: Source,
-    inputs: &'a [i32; 15],
-    displays: &'a [i32; 15],
-    rises: &'a [i32; 15],
-    runs: &'a [i32; 15],
-    last: usize,
-    step: i32,
-    input: i32,
-) -> Reading
-    requires { Readable rises.now runs.now last step }
-    ensures { result ≡ read_by source inputs.now displays.now rises.now runs.now last step input }
+pub fn read(s: &Segments, input: i32) -> Reading
+    requires { Readable s.now.rises s.now.runs s.now.last s.now.step }
+    ensures { result ≡ read s.now input }
 {
-    match source {
-        Source::Points => on_segments(inputs, displays, rises, runs, last, step, input),
-        Source::Platinum => sensing::read(step, input),
+    match s.source {
+        Source::Points => on_segments(s, input),
+        Source::Platinum => sensing::read(s.step, input),
     }
-}
-
-// The reading of an input. The lists are lent one by one: lent out of the whole they would be lent out of a copy of the whole.
-pub fn read(s: Segments, input: i32) -> Reading
-    requires { Readable s.rises s.runs s.last s.step }
-    ensures { result ≡ read s input }
-{
-    let source = s.source;
-    let last = s.last as usize;
-    let step = s.step;
-    let inputs = s.inputs;
-    let displays = s.displays;
-    let rises = s.rises;
-    let runs = s.runs;
-    reading_of(source, &inputs, &displays, &rises, &runs, last, step, input)
 }
 
 // Whether a rise and a run are such as two points of an accepted configuration have.
@@ -195,33 +142,19 @@ fn segment_in(rise: i32, run: i32) -> bool
 }
 
 // Whether all are, in use or not. There are always 15 and no test ends the walk, so the compiler takes several at a time.
-fn segments_in(rises: [i32; 15], runs: [i32; 15]) -> bool
-    ensures { result ≡ segments_in rises runs }
+fn segments_in(rises: &[i32; 15], runs: &[i32; 15]) -> bool
+    ensures { result ≡ segments_in rises.now runs.now }
 {
     let mut all = true;
-    let mut i = 0;
-    while i < 15 {
-        all = all & segment_in(rises[i], runs[i]);
-        i += 1;
+    for k in 0..15 {
+        all &= segment_in(rises[k], runs[k]);
     }
     all
 }
 
-// The test of a scale's parts. Whoever has the parts asks it of them: a call that takes the whole is handed a copy of the whole, and one
-// that takes two lists no more than these.
-pub fn is_tested(step: i32, last: u8, rises: [i32; 15], runs: [i32; 15]) -> bool
-    ensures { result ≡ tested step last rises runs }
+// Whether an input can be read by these segments. Every event of a meter asks it, so no test decides a jump.
+pub fn can_scale(s: &Segments) -> bool
+    ensures { result ≡ can_scale s.now }
 {
-    exact::is_within(step, 1, 100) & (last < 15) & segments_in(rises, runs)
-}
-
-// Whether an input can be read by these segments.
-pub fn can_scale(s: Segments) -> bool
-    ensures { result ≡ can_scale s }
-{
-    let step = s.step;
-    let last = s.last;
-    let rises = s.rises;
-    let runs = s.runs;
-    is_tested(step, last, rises, runs)
+    exact::is_within(s.step, 1, 100) & (s.last < 15) & segments_in(&s.rises, &s.runs)
 }

@@ -1,18 +1,32 @@
 -- `config::alarm_rule` meets its contract: the four tests, each of the number that is given. Assumes nothing.
-use borrow.Author.Rules.{rules}
-use mathlib.Core.Path.{◌≡◌}
-use mir.Syntax.{w32}
-use mir.Val.{to_z, of_z}
-use mir.Facts.{to_z-of_z}
-use Rattle.config.specs.Config.{alarm_rule}
+use Rattle.std.proofs.Common.{rules, ◌≡◌, sym, ◌&&◌, pos}
+use Rattle.exact.specs.Sign.{within}
+use Rattle.reading.specs.Reading.{in_display}
+use Rattle.config.specs.Config.{delay_in, alarm_rule}
 use Rattle.config.proofs.alarm_rule.Goals as goal
+use Rattle.config.proofs.alarm_rule.Goals.{then-is_within, else-is_within, then-is_within-2, else-is_within-2}
 
-pub returns : goal.returns
+pub returns-then-is_within-3 : goal.returns-then-is_within-3
 unfolding alarm_rule
-returns c =
-    let s = c in
-    let a = s.args.s in
-    let h : to_z w32 (of_z w32 a.hysteresis) ≡ a.hysteresis = search rules in
-    let n : to_z w32 (of_z w32 a.on_delay) ≡ a.on_delay = search rules in
-    let f : to_z w32 (of_z w32 a.off_delay) ≡ a.off_delay = search rules in
-    rw (c.is_within-a.ensures, c.is_within-b.ensures, c.is_within-c.ensures, c.is_within-d.ensures, to_z-of_z s.ranges.setpoint, h, n, f)
+returns-then-is_within-3 c =
+    let s = c.args.s in
+    let one : c.if-is_within.value ≡ (in_display c.args.setpoint && within (pos 1) (pos 9999) s.hysteresis) =
+    elim c.if-is_within.branch [ then-is_within w ↦ search rules | else-is_within w ↦ search rules ]
+    in
+    let two : c.if-is_within-2.value ≡ (c.if-is_within.value && delay_in s.on_delay) =
+    elim c.if-is_within-2.branch [ then-is_within-2 w ↦ search rules | else-is_within-2 w ↦ search rules ]
+    in
+    let three : c.is_within-then-is_within-3.result ≡ delay_in s.off_delay = search rules in
+    rw (sym one, sym two, c.if-is_within-3.true, three)
+
+pub returns-else-is_within-3 : goal.returns-else-is_within-3
+unfolding alarm_rule
+returns-else-is_within-3 c =
+    let s = c.args.s in
+    let one : c.if-is_within.value ≡ (in_display c.args.setpoint && within (pos 1) (pos 9999) s.hysteresis) =
+    elim c.if-is_within.branch [ then-is_within w ↦ search rules | else-is_within w ↦ search rules ]
+    in
+    let two : c.if-is_within-2.value ≡ (c.if-is_within.value && delay_in s.on_delay) =
+    elim c.if-is_within-2.branch [ then-is_within-2 w ↦ search rules | else-is_within-2 w ↦ search rules ]
+    in
+    rw (sym one, sym two, c.if-is_within-3.false)

@@ -1,22 +1,47 @@
--- `config::alarms_rule` meets its contract: each alarm's test is made on its own setpoint and settings. Assumes nothing.
-use mathlib.Core.Path.{◌≡◌}
-use lib.IntN.{pos}
-use lib.ListN.{get_or}
-use mir.Syntax.{w32}
-use mir.Val.{to_z, of_z}
-use Rattle.config.specs.Config.{alarms_rule}
-use borrow.Author.Rules.{rules}
+-- `config::alarms_rule` meets its contract: what the walk over both lists tests is the rule of each of the four. Assumes nothing.
+use Rattle.std.proofs.Common.{rules, ◌≡◌, ◌∙◌, refl, Bool, true, false, ◌&&◌, List, [], ℕ, ◌+◌, ◌<◌, length, drop, ℤ, pos, arith}
+use Rattle.std.proofs.lemmas.Iterator.{YieldsList-from_slice, YieldsList-from_zip}
+use Rattle.std.proofs.lemmas.Iterator.Search.{all_from_yields_List}
+use Rattle.std.proofs.Math.ListN.{drop_of_length-le}
+use Rattle.std.proofs.lemmas.List.{drop_more}
+use Rattle.std.specs.List.{list_all, zip}
+use Rattle.alarm.specs.Alarm.{no_settings}
+use Rattle.alarm.specs.declared.Settings.{Settings}
+use Rattle.config.specs.Config.{alarm_rule, alarm_rule_at, alarms_rule}
 use Rattle.config.proofs.alarms_rule.Goals as goal
 
-pub returns : goal.returns
+abbrev kept_from : List ℤ → List Settings → ℕ → Bool
+kept_from setpoints alarms k = list_all (λ (p : ℤ × Settings). alarm_rule p.0 p.1) (zip (drop k setpoints) (drop k alarms))
+
+one : (setpoints : List ℤ) (alarms : List Settings) (k : ℕ) → k < length setpoints → k < length alarms
+    → kept_from setpoints alarms k ≡ (alarm_rule_at setpoints alarms k && kept_from setpoints alarms (k + 1))
+one setpoints alarms k s a = rw (drop_more setpoints k (pos 0) s, drop_more alarms k no_settings a) refl
+
+none : (setpoints : List ℤ) (alarms : List Settings) (k : ℕ) → length setpoints ≡ k → kept_from setpoints alarms k ≡ true
+none setpoints alarms k s = let e : drop k setpoints ≡ [] = drop_of_length-le setpoints (omega arith) in rw e
+
+regrouped : (a b c d : Bool) → (a && (b && (c && (d && true)))) ≡ (a && b && c && d)
+regrouped true true true true = refl
+regrouped true true true false = refl
+regrouped true true false d = refl
+regrouped true false c d = refl
+regrouped false b c d = refl
+
+four : (setpoints : List ℤ) (alarms : List Settings) → length setpoints ≡ 4 → length alarms ≡ 4
+    → kept_from setpoints alarms 0 ≡ alarms_rule setpoints alarms
 unfolding alarms_rule
+four setpoints alarms e f =
+    let a = one setpoints alarms 0 (omega arith) (omega arith) in
+    let b = one setpoints alarms 1 (omega arith) (omega arith) in
+    let c = one setpoints alarms 2 (omega arith) (omega arith) in
+    let d = one setpoints alarms 3 (omega arith) (omega arith) in
+    let e : kept_from setpoints alarms 4 ≡ true = none setpoints alarms 4 (omega arith) in
+    rw (a, b, c, d, e)
+    (regrouped (alarm_rule_at setpoints alarms 0) (alarm_rule_at setpoints alarms 1) (alarm_rule_at setpoints alarms 2) (alarm_rule_at setpoints alarms 3))
+
+pub returns : goal.returns
 returns c =
-    let d = c in
-    let e = d in
-    let f = e in
-    let s = f.args in
-    let p : to_z w32 (of_z w32 (get_or s.setpoints 0 (pos 0))) ≡ get_or s.setpoints 0 (pos 0) = search rules in
-    let q : to_z w32 (of_z w32 (get_or s.setpoints 1 (pos 0))) ≡ get_or s.setpoints 1 (pos 0) = search rules in
-    let r : to_z w32 (of_z w32 (get_or s.setpoints 2 (pos 0))) ≡ get_or s.setpoints 2 (pos 0) = search rules in
-    let t : to_z w32 (of_z w32 (get_or s.setpoints 3 (pos 0))) ≡ get_or s.setpoints 3 (pos 0) = search rules in
-    rw (f.alarm_rule-a.ensures, e.alarm_rule-b.ensures, d.alarm_rule-c.ensures, c.alarm_rule-d.ensures, p, q, r, t)
+    all_from_yields_List (λ (p : ℤ × Settings). alarm_rule p.0 p.1) c.all.new.self _ _ c.all.ensures.ran
+    (YieldsList-from_zip (YieldsList-from_slice c.args.setpoints.now (cc)) (YieldsList-from_slice c.args.alarms.now (cc)))
+    (λ x b q k. search rules)
+    ∙ four c.args.setpoints.now c.args.alarms.now (search rules) (search rules)

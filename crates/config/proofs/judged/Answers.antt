@@ -1,234 +1,272 @@
 -- `config::judged` meets its contract: past each rule that is kept the verdict is that of the rules behind it, and at one that is
 -- broken it is that rule's number. Assumes nothing.
-use borrow.Author.Rules.{rules as the_rules}
-use mathlib.Core.Path.{◌≡◌, sym, ◌∙◌}
-use lib.ListN.{drop}
-use mir.Syntax.{w32}
-use mir.Val.{to_z, of_z}
-use Rattle.config.specs.Config.{node_rule, places_rule_by, step_rule, count_rule, points_rule, total_rule, low_cut_rule, alarms_rule, capture_rule, analog_rule, rules, first_broken, judged}
-use Rattle.config.specs.declared.Config.{Config}
-use Rattle.config.proofs.Verdicts.{passes, breaks}
+use Rattle.std.proofs.Common.{rules as the_rules, ◌≡◌, true, refl, sym, ap, Bool, false, [], ◌∷◌, ◌∙◌, drop, Err}
+use Rattle.config.specs.Config.{rules, first_broken, judged}
+use Rattle.config.specs.Meaning.{kept_at}
+use Rattle.config.specs.Verdict.{unless, verdict_of}
+use Rattle.config.specs.declared.Rule.TheVariants.{Node, Places, RoundingStep, PointCount, Points, Total, LowCut, Alarms, Capture, Analog}
+use Rattle.config.proofs.Verdicts.{passes, breaks, passed, failed}
 use Rattle.config.proofs.judged.Goals as goal
 use Rattle.config.proofs.judged.Lts as lts
 use Rattle.config.proofs.judged.Reads as reads
 use Rattle.config.proofs.judged.Tie as tie
 
-abbrev Else-not-is_within-3 : Type 0
-Else-not-is_within-3 = lts.Else9 tie.the-claims reads.Pre reads.Post
+-- ---- what each call tells of its rule
 
-abbrev Else-not-alarms_rule : Type 0
-Else-not-alarms_rule = lts.Else8 tie.the-claims reads.Pre reads.Post
+abbrev Asked1 : Type 0
+Asked1 = lts.After-unless tie.the-claims reads.Pre reads.Post tie.handed_clauses
 
-abbrev Else-not-is_within-2 : Type 0
-Else-not-is_within-2 = lts.Else7 tie.the-claims reads.Pre reads.Post
+told1 : (c : Asked1) → c.unless.result ≡ unless Node (kept_at (rules c.args.c) 0)
+unfolding rules
+told1 c = c.unless.ensures ∙ ap (unless Node) (search the_rules)
 
-abbrev Else-not-total_rule : Type 0
-Else-not-total_rule = lts.Else6 tie.the-claims reads.Pre reads.Post
+abbrev Asked2 : Type 0
+Asked2 = lts.After-unless2 tie.the-claims reads.Pre reads.Post tie.handed_clauses
 
-abbrev Else-not-points_rule : Type 0
-Else-not-points_rule = lts.Else5 tie.the-claims reads.Pre reads.Post
+told2 : (c : Asked2) → c.unless-2.result ≡ unless Places (kept_at (rules c.args.c) 1)
+unfolding rules
+told2 c = c.unless-2.ensures ∙ ap (unless Places) (search the_rules)
 
-abbrev Else-not-count_rule : Type 0
-Else-not-count_rule = lts.Else4 tie.the-claims reads.Pre reads.Post
+abbrev Asked3 : Type 0
+Asked3 = lts.After-unless3 tie.the-claims reads.Pre reads.Post tie.handed_clauses
 
-abbrev Else-not-is_step : Type 0
-Else-not-is_step = lts.Else3 tie.the-claims reads.Pre reads.Post
+told3 : (c : Asked3) → c.unless-3.result ≡ unless RoundingStep (kept_at (rules c.args.c) 2)
+unfolding rules
+told3 c = c.unless-3.ensures ∙ ap (unless RoundingStep) (search the_rules)
 
-abbrev Else-not-places_rule_by : Type 0
-Else-not-places_rule_by = lts.Else2 tie.the-claims reads.Pre reads.Post
+abbrev Asked4 : Type 0
+Asked4 = lts.After-unless4 tie.the-claims reads.Pre reads.Post tie.handed_clauses
 
-abbrev Else-not-is_within : Type 0
-Else-not-is_within = lts.Else1 tie.the-claims reads.Pre reads.Post
+told4 : (c : Asked4) → c.unless-4.result ≡ unless PointCount (kept_at (rules c.args.c) 3)
+unfolding rules
+told4 c = c.unless-4.ensures ∙ ap (unless PointCount) (search the_rules)
 
-abbrev After-analog_rule : Type 0
-After-analog_rule = lts.After-analog_rule tie.the-claims reads.Pre reads.Post
+abbrev Asked5 : Type 0
+Asked5 = lts.After-unless5 tie.the-claims reads.Pre reads.Post tie.handed_clauses
 
-abbrev After-is_within-3 : Type 0
-After-is_within-3 = lts.After-is_within3 tie.the-claims reads.Pre reads.Post
+told5 : (c : Asked5) → c.unless-5.result ≡ unless Points (kept_at (rules c.args.c) 4)
+unfolding rules
+told5 c = c.unless-5.ensures ∙ ap (unless Points) (search the_rules)
 
-abbrev After-alarms_rule : Type 0
-After-alarms_rule = lts.After-alarms_rule tie.the-claims reads.Pre reads.Post
+abbrev Asked6 : Type 0
+Asked6 = lts.After-unless6 tie.the-claims reads.Pre reads.Post tie.handed_clauses
 
-abbrev After-is_within-2 : Type 0
-After-is_within-2 = lts.After-is_within2 tie.the-claims reads.Pre reads.Post
+told6 : (c : Asked6) → c.unless-6.result ≡ unless Total (kept_at (rules c.args.c) 5)
+unfolding rules
+told6 c = c.unless-6.ensures ∙ ap (unless Total) (search the_rules)
 
-abbrev After-total_rule : Type 0
-After-total_rule = lts.After-total_rule tie.the-claims reads.Pre reads.Post
+abbrev Asked7 : Type 0
+Asked7 = lts.After-unless7 tie.the-claims reads.Pre reads.Post tie.handed_clauses
 
-abbrev After-points_rule : Type 0
-After-points_rule = lts.After-points_rule tie.the-claims reads.Pre reads.Post
+told7 : (c : Asked7) → c.unless-7.result ≡ unless LowCut (kept_at (rules c.args.c) 6)
+unfolding rules
+told7 c = c.unless-7.ensures ∙ ap (unless LowCut) (search the_rules)
 
-abbrev After-count_rule : Type 0
-After-count_rule = lts.After-count_rule tie.the-claims reads.Pre reads.Post
+abbrev Asked8 : Type 0
+Asked8 = lts.After-unless8 tie.the-claims reads.Pre reads.Post tie.handed_clauses
 
-abbrev After-is_step : Type 0
-After-is_step = lts.After-is_step tie.the-claims reads.Pre reads.Post
+told8 : (c : Asked8) → c.unless-8.result ≡ unless Alarms (kept_at (rules c.args.c) 7)
+unfolding rules
+told8 c = c.unless-8.ensures ∙ ap (unless Alarms) (search the_rules)
 
-abbrev After-places_rule_by : Type 0
-After-places_rule_by = lts.After-places_rule_by tie.the-claims reads.Pre reads.Post
+abbrev Asked9 : Type 0
+Asked9 = lts.After-unless9 tie.the-claims reads.Pre reads.Post tie.handed_clauses
 
-abbrev After-is_within : Type 0
-After-is_within = lts.After-is_within tie.the-claims reads.Pre reads.Post
+told9 : (c : Asked9) → c.unless-9.result ≡ unless Capture (kept_at (rules c.args.c) 8)
+unfolding rules
+told9 c = c.unless-9.ensures ∙ ap (unless Capture) (search the_rules)
 
--- ---- the configuration at each call, and what the call tells of its rule
+abbrev Asked10 : Type 0
+Asked10 = lts.After-unless10 tie.the-claims reads.Pre reads.Post tie.handed_clauses
 
-abbrev config1 : After-is_within → Config
-config1 c = c.args.c
-
-test1 : (c : After-is_within) → c.is_within.result ≡ node_rule (config1 c).talking.node
-test1 c =
-    let e : to_z w32 (of_z w32 (config1 c).talking.node) ≡ (config1 c).talking.node = search the_rules in
-    c.is_within.ensures ∙ rw e
-
-abbrev config2 : After-places_rule_by → Config
-config2 c = config1 c.before.before
-
-test2 : (c : After-places_rule_by) → c.places_rule_by.result ≡ places_rule_by (config2 c).scale.source (config2 c).talking.places
-test2 c = c.places_rule_by.ensures
-
-abbrev config3 : After-is_step → Config
-config3 c = config2 c.before.before.before
-
-test3 : (c : After-is_step) → c.is_step.result ≡ step_rule (config3 c).scale
-test3 c =
-    let e : to_z w32 (of_z w32 (config3 c).scale.step) ≡ (config3 c).scale.step = search the_rules in
-    c.is_step.ensures ∙ rw e
-
-abbrev config4 : After-count_rule → Config
-config4 c = config3 c.before.before.before
-
-test4 : (c : After-count_rule) → c.count_rule.result ≡ count_rule (config4 c).scale
-test4 c =
-    let e : to_z w32 (of_z w32 (config4 c).scale.count) ≡ (config4 c).scale.count = search the_rules in
-    c.count_rule.ensures ∙ rw e
-
-abbrev config5 : After-points_rule → Config
-config5 c = config4 c.before.before
-
-test5 : (c : After-points_rule) → c.points_rule.result ≡ points_rule (config5 c).scale
-test5 c = c.points_rule.ensures
-
-abbrev config6 : After-total_rule → Config
-config6 c = config5 c.before.before
-
-test6 : (c : After-total_rule) → c.total_rule.result ≡ total_rule (config6 c).working.totalizer
-test6 c = c.total_rule.ensures
-
-abbrev config7 : After-is_within-2 → Config
-config7 c = config6 c.before.before.before
-
-test7 : (c : After-is_within-2) → c.is_within-2.result ≡ low_cut_rule (config7 c).working.totalizer
-test7 c =
-    let e : to_z w32 (of_z w32 (config7 c).working.totalizer.low_cut) ≡ (config7 c).working.totalizer.low_cut = search the_rules in
-    c.is_within-2.ensures ∙ rw e
-
-abbrev config8 : After-alarms_rule → Config
-config8 c = config7 c.before.before
-
-test8 : (c : After-alarms_rule) → c.alarms_rule.result ≡ alarms_rule (config8 c).setpoints (config8 c).working.alarms
-test8 c = c.alarms_rule.ensures
-
-abbrev config9 : After-is_within-3 → Config
-config9 c = config8 c.before.before.before
-
-test9 : (c : After-is_within-3) → c.is_within-3.result ≡ capture_rule (config9 c).working.capture
-test9 c =
-    let e : to_z w32 (of_z w32 (config9 c).working.capture) ≡ (config9 c).working.capture = search the_rules in
-    c.is_within-3.ensures ∙ rw e
-
-abbrev config10 : After-analog_rule → Config
-config10 c = config9 c.before.before
-
-test10 : (c : After-analog_rule) → c.analog_rule.result ≡ analog_rule (config10 c).working.analog
-test10 c = c.analog_rule.ensures
+told10 : (c : Asked10) → c.unless-10.result ≡ unless Analog (kept_at (rules c.args.c) 9)
+unfolding rules
+told10 c = c.unless-10.ensures ∙ ap (unless Analog) (search the_rules)
 
 -- ---- past a rule that is kept
 
-past1 : (c : Else-not-is_within) → judged (config1 c.before) ≡ first_broken 2 (drop 1 (rules (config1 c.before)))
+abbrev Past1 : Type 0
+Past1 = lts.Past-After-known_told tie.the-claims reads.Pre reads.Post tie.handed_clauses
+
+kept1 : (c : Past1) → kept_at (rules c.args.c) 0 ≡ true
+kept1 c = passed Node _ _ (sym (told1 c.before.before) ∙ c.in_ok-unless.was)
+
+past1 : (c : Past1) → judged c.args.c ≡ first_broken 2 (drop 1 (rules c.args.c))
 unfolding judged rules
-past1 c = passes 1 _ _ (sym (test1 c.before) ∙ c.if-not-is_within.false)
+past1 c = passes 1 _ _ (kept1 c)
 
-past2 : (c : Else-not-places_rule_by) → judged (config2 c.before) ≡ first_broken 3 (drop 2 (rules (config2 c.before)))
-unfolding rules
-past2 c = past1 c.before.before ∙ passes 2 _ _ (sym (test2 c.before) ∙ c.if-not-places_rule_by.false)
+abbrev Past2 : Type 0
+Past2 = lts.Past-After-known_told3 tie.the-claims reads.Pre reads.Post tie.handed_clauses
 
-past3 : (c : Else-not-is_step) → judged (config3 c.before) ≡ first_broken 4 (drop 3 (rules (config3 c.before)))
-unfolding rules
-past3 c = past2 c.before.before.before ∙ passes 3 _ _ (sym (test3 c.before) ∙ c.if-not-is_step.false)
+kept2 : (c : Past2) → kept_at (rules c.args.c) 1 ≡ true
+kept2 c = passed Places _ _ (sym (told2 c.before.before) ∙ c.in_ok-unless-2.was)
 
-past4 : (c : Else-not-count_rule) → judged (config4 c.before) ≡ first_broken 5 (drop 4 (rules (config4 c.before)))
+past2 : (c : Past2) → judged c.args.c ≡ first_broken 3 (drop 2 (rules c.args.c))
 unfolding rules
-past4 c = past3 c.before.before.before ∙ passes 4 _ _ (sym (test4 c.before) ∙ c.if-not-count_rule.false)
+past2 c = past1 c.before.before.before.before.before.before ∙ passes 2 _ _ (kept2 c)
 
-past5 : (c : Else-not-points_rule) → judged (config5 c.before) ≡ first_broken 6 (drop 5 (rules (config5 c.before)))
-unfolding rules
-past5 c = past4 c.before.before ∙ passes 5 _ _ (sym (test5 c.before) ∙ c.if-not-points_rule.false)
+abbrev Past3 : Type 0
+Past3 = lts.Past-After-known_told5 tie.the-claims reads.Pre reads.Post tie.handed_clauses
 
-past6 : (c : Else-not-total_rule) → judged (config6 c.before) ≡ first_broken 7 (drop 6 (rules (config6 c.before)))
-unfolding rules
-past6 c = past5 c.before.before ∙ passes 6 _ _ (sym (test6 c.before) ∙ c.if-not-total_rule.false)
+kept3 : (c : Past3) → kept_at (rules c.args.c) 2 ≡ true
+kept3 c = passed RoundingStep _ _ (sym (told3 c.before.before) ∙ c.in_ok-unless-3.was)
 
-past7 : (c : Else-not-is_within-2) → judged (config7 c.before) ≡ first_broken 8 (drop 7 (rules (config7 c.before)))
+past3 : (c : Past3) → judged c.args.c ≡ first_broken 4 (drop 3 (rules c.args.c))
 unfolding rules
-past7 c = past6 c.before.before.before ∙ passes 7 _ _ (sym (test7 c.before) ∙ c.if-not-is_within-2.false)
+past3 c = past2 c.before.before.before.before.before ∙ passes 3 _ _ (kept3 c)
 
-past8 : (c : Else-not-alarms_rule) → judged (config8 c.before) ≡ first_broken 9 (drop 8 (rules (config8 c.before)))
-unfolding rules
-past8 c = past7 c.before.before ∙ passes 8 _ _ (sym (test8 c.before) ∙ c.if-not-alarms_rule.false)
+abbrev Past4 : Type 0
+Past4 = lts.Past-After-known_told7 tie.the-claims reads.Pre reads.Post tie.handed_clauses
 
-past9 : (c : Else-not-is_within-3) → judged (config9 c.before) ≡ first_broken 10 (drop 9 (rules (config9 c.before)))
-unfolding rules
-past9 c = past8 c.before.before.before ∙ passes 9 _ _ (sym (test9 c.before) ∙ c.if-not-is_within-3.false)
+kept4 : (c : Past4) → kept_at (rules c.args.c) 3 ≡ true
+kept4 c = passed PointCount _ _ (sym (told4 c.before.before) ∙ c.in_ok-unless-4.was)
 
-past10 : (c : goal.Else-not-analog_rule) → judged (config10 c.before) ≡ first_broken 11 (drop 10 (rules (config10 c.before)))
+past4 : (c : Past4) → judged c.args.c ≡ first_broken 5 (drop 4 (rules c.args.c))
 unfolding rules
-past10 c = past9 c.before.before ∙ passes 10 _ _ (sym (test10 c.before) ∙ c.if-not-analog_rule.false)
+past4 c = past3 c.before.before.before.before.before.before ∙ passes 4 _ _ (kept4 c)
+
+abbrev Past5 : Type 0
+Past5 = lts.Past-After-known_told9 tie.the-claims reads.Pre reads.Post tie.handed_clauses
+
+kept5 : (c : Past5) → kept_at (rules c.args.c) 4 ≡ true
+kept5 c = passed Points _ _ (sym (told5 c.before.before) ∙ c.in_ok-unless-5.was)
+
+past5 : (c : Past5) → judged c.args.c ≡ first_broken 6 (drop 5 (rules c.args.c))
+unfolding rules
+past5 c = past4 c.before.before.before.before.before ∙ passes 5 _ _ (kept5 c)
+
+abbrev Past6 : Type 0
+Past6 = lts.Past-After-known_told11 tie.the-claims reads.Pre reads.Post tie.handed_clauses
+
+kept6 : (c : Past6) → kept_at (rules c.args.c) 5 ≡ true
+kept6 c = passed Total _ _ (sym (told6 c.before.before) ∙ c.in_ok-unless-6.was)
+
+past6 : (c : Past6) → judged c.args.c ≡ first_broken 7 (drop 6 (rules c.args.c))
+unfolding rules
+past6 c = past5 c.before.before.before.before.before ∙ passes 6 _ _ (kept6 c)
+
+abbrev Past7 : Type 0
+Past7 = lts.Past-After-known_told13 tie.the-claims reads.Pre reads.Post tie.handed_clauses
+
+kept7 : (c : Past7) → kept_at (rules c.args.c) 6 ≡ true
+kept7 c = passed LowCut _ _ (sym (told7 c.before.before) ∙ c.in_ok-unless-7.was)
+
+past7 : (c : Past7) → judged c.args.c ≡ first_broken 8 (drop 7 (rules c.args.c))
+unfolding rules
+past7 c = past6 c.before.before.before.before.before ∙ passes 7 _ _ (kept7 c)
+
+abbrev Past8 : Type 0
+Past8 = lts.Past-After-known_told15 tie.the-claims reads.Pre reads.Post tie.handed_clauses
+
+kept8 : (c : Past8) → kept_at (rules c.args.c) 7 ≡ true
+kept8 c = passed Alarms _ _ (sym (told8 c.before.before) ∙ c.in_ok-unless-8.was)
+
+past8 : (c : Past8) → judged c.args.c ≡ first_broken 9 (drop 8 (rules c.args.c))
+unfolding rules
+past8 c = past7 c.before.before.before.before.before.before ∙ passes 8 _ _ (kept8 c)
+
+abbrev Past9 : Type 0
+Past9 = lts.Past-After-known_told17 tie.the-claims reads.Pre reads.Post tie.handed_clauses
+
+kept9 : (c : Past9) → kept_at (rules c.args.c) 8 ≡ true
+kept9 c = passed Capture _ _ (sym (told9 c.before.before) ∙ c.in_ok-unless-9.was)
+
+past9 : (c : Past9) → judged c.args.c ≡ first_broken 10 (drop 9 (rules c.args.c))
+unfolding rules
+past9 c = past8 c.before.before.before.before.before ∙ passes 9 _ _ (kept9 c)
+
+last : (kept : Bool) → verdict_of (unless Analog kept) ≡ first_broken 10 (kept ∷ [])
+unfolding first_broken
+last true = refl
+last false = refl
 
 -- ---- the answers
 
-pub returns-then-not-is_within : goal.returns-then-not-is_within
+pub returns-in_err-unless : goal.returns-in_err-unless
 unfolding judged rules
-returns-then-not-is_within c = sym (breaks 1 _ _ (sym (test1 c.before) ∙ c.if-not-is_within.true))
+returns-in_err-unless c =
+    let broken : (kept_at (rules c.args.c) 0 ≡ false) × (c.in_err-unless.field-0.0 ≡ Node) =
+    failed Node _ _ (sym (told1 c.before.before.before) ∙ c.in_err-unless.was)
+    in
+    let e : c.from_residual.result ≡ Err Node = search (the_rules, broken.1) in
+    ap verdict_of e ∙ sym (breaks 1 _ _ broken.0)
 
-pub returns-then-not-places_rule_by : goal.returns-then-not-places_rule_by
+pub returns-in_err-unless-2 : goal.returns-in_err-unless-2
 unfolding rules
-returns-then-not-places_rule_by c = sym (past1 c.before.before ∙ breaks 2 _ _ (sym (test2 c.before) ∙ c.if-not-places_rule_by.true))
+returns-in_err-unless-2 c =
+    let broken : (kept_at (rules c.args.c) 1 ≡ false) × (c.in_err-unless-2.field-0.0 ≡ Places) =
+    failed Places _ _ (sym (told2 c.before.before.before) ∙ c.in_err-unless-2.was)
+    in
+    let e : c.from_residual-in_err-unless-2.result ≡ Err Places = search (the_rules, broken.1) in
+    ap verdict_of e ∙ sym (past1 c.before.before.before.before.before.before.before ∙ breaks 2 _ _ broken.0)
 
-pub returns-then-not-is_step : goal.returns-then-not-is_step
+pub returns-in_err-unless-3 : goal.returns-in_err-unless-3
 unfolding rules
-returns-then-not-is_step c = sym (past2 c.before.before.before ∙ breaks 3 _ _ (sym (test3 c.before) ∙ c.if-not-is_step.true))
+returns-in_err-unless-3 c =
+    let broken : (kept_at (rules c.args.c) 2 ≡ false) × (c.in_err-unless-3.field-0.0 ≡ RoundingStep) =
+    failed RoundingStep _ _ (sym (told3 c.before.before.before) ∙ c.in_err-unless-3.was)
+    in
+    let e : c.from_residual-in_err-unless-3.result ≡ Err RoundingStep = search (the_rules, broken.1) in
+    ap verdict_of e ∙ sym (past2 c.before.before.before.before.before.before ∙ breaks 3 _ _ broken.0)
 
-pub returns-then-not-count_rule : goal.returns-then-not-count_rule
+pub returns-in_err-unless-4 : goal.returns-in_err-unless-4
 unfolding rules
-returns-then-not-count_rule c = sym (past3 c.before.before.before ∙ breaks 4 _ _ (sym (test4 c.before) ∙ c.if-not-count_rule.true))
+returns-in_err-unless-4 c =
+    let broken : (kept_at (rules c.args.c) 3 ≡ false) × (c.in_err-unless-4.field-0.0 ≡ PointCount) =
+    failed PointCount _ _ (sym (told4 c.before.before.before) ∙ c.in_err-unless-4.was)
+    in
+    let e : c.from_residual-in_err-unless-4.result ≡ Err PointCount = search (the_rules, broken.1) in
+    ap verdict_of e ∙ sym (past3 c.before.before.before.before.before.before.before ∙ breaks 4 _ _ broken.0)
 
 pub points_rule-requires : goal.points_rule-requires
-points_rule-requires c = sym (test4 c.before.before) ∙ c.if-not-count_rule.false
-
-pub returns-then-not-points_rule : goal.returns-then-not-points_rule
 unfolding rules
-returns-then-not-points_rule c = sym (past4 c.before.before ∙ breaks 5 _ _ (sym (test5 c.before) ∙ c.if-not-points_rule.true))
+points_rule-requires c = kept4 c.before
 
-pub returns-then-not-total_rule : goal.returns-then-not-total_rule
+pub returns-in_err-unless-5 : goal.returns-in_err-unless-5
 unfolding rules
-returns-then-not-total_rule c = sym (past5 c.before.before ∙ breaks 6 _ _ (sym (test6 c.before) ∙ c.if-not-total_rule.true))
+returns-in_err-unless-5 c =
+    let broken : (kept_at (rules c.args.c) 4 ≡ false) × (c.in_err-unless-5.field-0.0 ≡ Points) =
+    failed Points _ _ (sym (told5 c.before.before.before) ∙ c.in_err-unless-5.was)
+    in
+    let e : c.from_residual-in_err-unless-5.result ≡ Err Points = search (the_rules, broken.1) in
+    ap verdict_of e ∙ sym (past4 c.before.before.before.before.before.before ∙ breaks 5 _ _ broken.0)
 
-pub returns-then-not-is_within-2 : goal.returns-then-not-is_within-2
+pub returns-in_err-unless-6 : goal.returns-in_err-unless-6
 unfolding rules
-returns-then-not-is_within-2 c = sym (past6 c.before.before.before ∙ breaks 7 _ _ (sym (test7 c.before) ∙ c.if-not-is_within-2.true))
+returns-in_err-unless-6 c =
+    let broken : (kept_at (rules c.args.c) 5 ≡ false) × (c.in_err-unless-6.field-0.0 ≡ Total) =
+    failed Total _ _ (sym (told6 c.before.before.before) ∙ c.in_err-unless-6.was)
+    in
+    let e : c.from_residual-in_err-unless-6.result ≡ Err Total = search (the_rules, broken.1) in
+    ap verdict_of e ∙ sym (past5 c.before.before.before.before.before.before ∙ breaks 6 _ _ broken.0)
 
-pub returns-then-not-alarms_rule : goal.returns-then-not-alarms_rule
+pub returns-in_err-unless-7 : goal.returns-in_err-unless-7
 unfolding rules
-returns-then-not-alarms_rule c = sym (past7 c.before.before ∙ breaks 8 _ _ (sym (test8 c.before) ∙ c.if-not-alarms_rule.true))
+returns-in_err-unless-7 c =
+    let broken : (kept_at (rules c.args.c) 6 ≡ false) × (c.in_err-unless-7.field-0.0 ≡ LowCut) =
+    failed LowCut _ _ (sym (told7 c.before.before.before) ∙ c.in_err-unless-7.was)
+    in
+    let e : c.from_residual-in_err-unless-7.result ≡ Err LowCut = search (the_rules, broken.1) in
+    ap verdict_of e ∙ sym (past6 c.before.before.before.before.before.before ∙ breaks 7 _ _ broken.0)
 
-pub returns-then-not-is_within-3 : goal.returns-then-not-is_within-3
+pub returns-in_err-unless-8 : goal.returns-in_err-unless-8
 unfolding rules
-returns-then-not-is_within-3 c = sym (past8 c.before.before.before ∙ breaks 9 _ _ (sym (test9 c.before) ∙ c.if-not-is_within-3.true))
+returns-in_err-unless-8 c =
+    let broken : (kept_at (rules c.args.c) 7 ≡ false) × (c.in_err-unless-8.field-0.0 ≡ Alarms) =
+    failed Alarms _ _ (sym (told8 c.before.before.before) ∙ c.in_err-unless-8.was)
+    in
+    let e : c.from_residual-in_err-unless-8.result ≡ Err Alarms = search (the_rules, broken.1) in
+    ap verdict_of e ∙ sym (past7 c.before.before.before.before.before.before.before ∙ breaks 8 _ _ broken.0)
 
-pub returns-then-not-analog_rule : goal.returns-then-not-analog_rule
+pub returns-in_err-unless-9 : goal.returns-in_err-unless-9
 unfolding rules
-returns-then-not-analog_rule c = sym (past9 c.before.before ∙ breaks 10 _ _ (sym (test10 c.before) ∙ c.if-not-analog_rule.true))
+returns-in_err-unless-9 c =
+    let broken : (kept_at (rules c.args.c) 8 ≡ false) × (c.in_err-unless-9.field-0.0 ≡ Capture) =
+    failed Capture _ _ (sym (told9 c.before.before.before) ∙ c.in_err-unless-9.was)
+    in
+    let e : c.from_residual-in_err-unless-9.result ≡ Err Capture = search (the_rules, broken.1) in
+    ap verdict_of e ∙ sym (past8 c.before.before.before.before.before.before ∙ breaks 9 _ _ broken.0)
 
 pub returns : goal.returns
 unfolding rules first_broken
-returns c = sym (past10 c)
+returns c = ap verdict_of (told10 c) ∙ last (kept_at (rules c.args.c) 9) ∙ sym (past9 c.before.before.before)

@@ -1,66 +1,37 @@
--- `scaling::of_points` meets its contract: starts and differences of the inputs, and of the displays. Assumes nothing.
-use borrow.Author.Rules.{rules}
-use native.Mathlib.Omega.{arith}
-use mathlib.Core.Path.{◌≡◌}
-use Prim.Native.Nat.{ℕ, ◌≤◌, ◌<◌}
-use lib.IntN.{nat_abs}
-use mir.Syntax.{w32}
-use mir.Val.{to_z, of_z}
-use Rattle.exact.proofs.Z.{non_neg_is}
+-- `scaling::of_points` meets its contract: each closure gives what the definition says of a segment. Assumes nothing.
+use Rattle.std.proofs.Common.{rules, ◌≡◌, ◌∙◌, ℕ, ◌+◌, ◌<◌, ◌≤◌, List, ℤ, ◌-ℤ◌, nat_abs, w32, to_z, of_z, arith}
+use lib.Dec.{lit<}
+use mir.Val.{SFits}
+use mir.Facts.{to_z-of_z}
+use Rattle.exact.proofs.Z.{abs_fits, abs_sub_le, between_is}
 use Rattle.reading.specs.Reading.{point}
-use Rattle.reading.proofs.Scale.{input_small, display_small}
+use Rattle.segments.specs.Segments.{start_of, difference_of}
 use Rattle.scaling.proofs.of_points.Goals as goal
-use Rattle.scaling.proofs.of_points.Lts as lts
-use Rattle.scaling.proofs.of_points.Reads as reads
-use Rattle.scaling.proofs.of_points.Tie as tie
 
-abbrev Start : Type 0
-Start = lts.Start tie.the-claims reads.Pre reads.Post tie.handed_clauses
-
--- the bits of the count and of the step are their numbers
-count_back : (c : Start) → to_z w32 (of_z w32 c.args.s.count) ≡ c.args.s.count
-count_back c = search rules
-
-step_back : (c : Start) → to_z w32 (of_z w32 c.args.s.step) ≡ c.args.s.step
-step_back c = search rules
-
--- there are 2 to 16 points, each in its ranges
-between : (c : Start) → (2 ≤ nat_abs (to_z w32 (of_z w32 c.args.s.count))) × (nat_abs (to_z w32 (of_z w32 c.args.s.count)) ≤ 16)
-between c = rw (count_back c) (c.requires.scalable.two, c.requires.scalable.sixteen)
-
-small_inputs : (c : Start) (k : ℕ) → k < nat_abs (to_z w32 (of_z w32 c.args.s.count)) → nat_abs (point c.args.s.inputs k) ≤ 99999
-small_inputs c k h = input_small (point c.args.s.inputs k) (c.requires.scalable.inputs_in k (rw (count_back c) at h))
-
-small_displays : (c : Start) (k : ℕ) → k < nat_abs (to_z w32 (of_z w32 c.args.s.count)) → nat_abs (point c.args.s.displays k) ≤ 99999
-small_displays c k h = display_small (point c.args.s.displays k) (c.requires.scalable.displays_in k (rw (count_back c) at h))
-
-pub overflow_cast-count : goal.overflow_cast-count
-overflow_cast-count c = let s = c in (rw (count_back s.before.before) (non_neg_is s.args.s.count s.requires.count_value), omega (arith, (between s.before.before).1))
-
-pub starts-inputs-requires : goal.starts-inputs-requires
-starts-inputs-requires c = (between c.before.before.before).1
-
-pub starts-displays-requires : goal.starts-displays-requires
-starts-displays-requires c = (between c.before.before.before.before.before).1
-
-pub differences-rises-requires : goal.differences-rises-requires
-differences-rises-requires c = let s = c in record { count_bound = (between s.before.before.before.before.before.before.before).1; by_index = small_displays s.before.before.before.before.before.before.before }
-
-pub differences-runs-requires : goal.differences-runs-requires
-differences-runs-requires c =
-    let s = c in
-    record { count_bound = (between s.before.before.before.before.before.before.before.before.before).1; by_index = small_inputs s.before.before.before.before.before.before.before.before.before }
-
-pub overflow_sub-result : goal.overflow_sub-result
-overflow_sub-result c = (between c.before.before.before.before.before.before.before.before.before.before).0
-
-pub overflow_cast-result : goal.overflow_cast-result
-overflow_cast-result c = omega (arith, (between c.before.before.before.before.before.before.before.before.before.before).1)
+-- two points lie no further apart than the two ranges are wide
+differs : (l : List ℤ) (k : ℕ) (z : ℤ) → nat_abs (point l k) ≤ 99999 → nat_abs (point l (k + 1)) ≤ 99999
+    → z ≡ to_z w32 (of_z w32 (to_z w32 (of_z w32 (point l (k + 1))) -ℤ to_z w32 (of_z w32 (point l k)))) → z ≡ difference_of l k
+differs l k z here next e =
+    let from : SFits w32 (point l k) = abs_fits _ (omega arith) in
+    let to : SFits w32 (point l (k + 1)) = abs_fits _ (omega arith) in
+    let fits : SFits w32 (difference_of l k) = abs_fits _ (omega (arith, abs_sub_le (point l (k + 1)) (point l k))) in
+    e ∙ rw (to_z-of_z to, to_z-of_z from) (to_z-of_z fits)
 
 pub returns : goal.returns
 returns c =
-    let rises = c in
-    let displays = rises in
-    let inputs = displays in
-    let s = inputs in
-    rw (inputs.starts-inputs.ensures, displays.starts-displays.ensures, rises.differences-rises.ensures, c.differences-runs.ensures, count_back s.before.before.before.before.before.before.before.before.before.before, step_back s.before.before.before.before.before.before.before.before.before.before)
+    let s = c.args.s.now in
+    let points = c.requires.scalable in
+    let count : to_z w32 (of_z w32 s.count) ≡ s.count = search rules in
+    let input : (k : ℕ) → k < nat_abs s.count → nat_abs (point s.inputs k) ≤ 99999 = λ k h. between_is (point s.inputs k) 99999 99998 (lit< tt) (points.inputs_in k h) in
+    let display : (k : ℕ) → k < nat_abs s.count → nat_abs (point s.displays k) ≤ 99999 = λ k h. between_is (point s.displays k) 99999 19998 (lit< tt) (points.displays_in k h) in
+    let inputs = c.held.ensures (start_of s.inputs) (λ k z u post. search rules) in
+    let displays = c.held-2.ensures (start_of s.displays) (λ k z u post. search rules) in
+    let rises =
+    c.held-3.ensures (difference_of s.displays)
+    (λ k z u post. let h : k + 1 < nat_abs s.count = omega (arith, rw count at u) in differs s.displays k z (display k (omega arith)) (display (k + 1) h) (search rules))
+    in
+    let runs =
+    c.held-4.ensures (difference_of s.inputs)
+    (λ k z u post. let h : k + 1 < nat_abs s.count = omega (arith, rw count at u) in differs s.inputs k z (input k (omega arith)) (input (k + 1) h) (search rules))
+    in
+    rw (inputs, displays, rises, runs) (search rules)
