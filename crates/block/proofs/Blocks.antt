@@ -1,12 +1,15 @@
 -- What a block is made of: how long it is, and that it depends on the lines of A to H alone. Assumes nothing.
-use mathlib.Core.Path.{◌≡◌, refl, ◌∙◌}
+use mathlib.Core.Path.{◌≡◌, refl, sym, ap, ◌∙◌}
 use mathlib.Core.Bool.{Bool, true, false, cond, ◌&&◌, ◌||◌}
 use mathlib.Core.List.{List, [], ◌∷◌, ◌++◌, append_assoc, append-nil}
-use Prim.Native.Nat.{ℕ, ◌+◌, ◌*◌, ◌≤◌}
+use Prim.Native.Nat.{ℕ, zero, suc, ◌+◌, ◌*◌, ◌≤◌, ◌<◌}
 use native.Mathlib.Nat.{add-mul, mul-le-mul_right}
+use native.Mathlib.Numerals.{add-one}
 use native.Mathlib.Omega.{arith}
 use lib.Dec.{leb}
-use lib.ListN.{length, length-append}
+use lib.ListN.{length, take, drop, get_or, length-append, take-append-drop}
+use lib.Seq.{take-suc}
+use mir.Val.{bool_byte as from_bool}
 use borrow.Author.Tests.{leb-true}
 use Rattle.exact.proofs.Z.{both}
 use Rattle.register.specs.Registers.{at}
@@ -15,7 +18,7 @@ use Rattle.line.specs.declared.Style.{Style}
 use Rattle.line.specs.Line.{line_length, Writable}
 use Rattle.line.proofs.Lines.{line_length_lem}
 use Rattle.block.specs.declared.Values.{Values}
-use Rattle.block.specs.Block.{Option, wants, order, chosen, chosen_lines, some, line_count, block_end, block, block_length}
+use Rattle.block.specs.Block.{Option, setpoints, wants, order, option_at, chosen, chosen_lines, some, line_count, block_end, block, block_length}
 use Rattle.block.specs.Values.{value_at, places_of, value_line, Printable}
 
 -- ── some lines ──
@@ -29,11 +32,55 @@ unfolding chosen_lines
 lines_append p line [] ys = refl
 lines_append p line (x ∷ xs) ys = rw (lines_append p line xs ys, append_assoc (piece p line x) (chosen_lines p line xs) (chosen_lines p line ys))
 
--- four of them, as the code writes them: each behind what stands there
-pub four_lines : (p : Print) (line : ℕ → List ℕ) (a b c d : ℕ × Option)
-    → chosen_lines p line (a ∷ b ∷ c ∷ d ∷ []) ≡ piece p line a ++ piece p line b ++ piece p line c ++ piece p line d
+-- one line more
+lines_more : (p : Print) (line : ℕ → List ℕ) (xs : List (ℕ × Option)) (i : ℕ) (d : ℕ × Option) → i < length xs
+    → chosen_lines p line (take (i + 1) xs) ≡ chosen_lines p line (take i xs) ++ piece p line (get_or xs i d)
 unfolding chosen_lines
-four_lines p line a b c d = simp (append_assoc, append-nil)
+lines_more p line xs i d h =
+    rw (add-one, take-suc xs i d, lines_append p line (take i xs) (get_or xs i d ∷ []), append-nil)
+
+-- each register of the order stands at its own place, in the definition as in the code
+at_place : (i : ℕ) → i < 8 → (get_or order i (at "H", setpoints)).0 ≡ i
+at_place zero h = refl
+at_place (suc zero) h = refl
+at_place (suc (suc zero)) h = refl
+at_place (suc (suc (suc zero))) h = refl
+at_place (suc (suc (suc (suc zero)))) h = refl
+at_place (suc (suc (suc (suc (suc zero))))) h = refl
+at_place (suc (suc (suc (suc (suc (suc zero)))))) h = refl
+at_place (suc (suc (suc (suc (suc (suc (suc zero))))))) h = refl
+at_place (suc (suc (suc (suc (suc (suc (suc (suc i)))))))) h = absurd (omega arith)
+
+abbrev pub ordered : List ℕ
+ordered = 0 ∷ 1 ∷ 2 ∷ 3 ∷ 4 ∷ 5 ∷ 6 ∷ 7 ∷ []
+
+pub at_its_place : (i : ℕ) → i < 8 → get_or ordered i 0 ≡ i
+at_its_place zero h = refl
+at_its_place (suc zero) h = refl
+at_its_place (suc (suc zero)) h = refl
+at_its_place (suc (suc (suc zero))) h = refl
+at_its_place (suc (suc (suc (suc zero)))) h = refl
+at_its_place (suc (suc (suc (suc (suc zero))))) h = refl
+at_its_place (suc (suc (suc (suc (suc (suc zero)))))) h = refl
+at_its_place (suc (suc (suc (suc (suc (suc (suc zero))))))) h = refl
+at_its_place (suc (suc (suc (suc (suc (suc (suc (suc i)))))))) h = absurd (omega arith)
+
+-- the lines up to a register, and its own behind them
+pub one_more : (p : Print) (line : ℕ → List ℕ) (i : ℕ) → i < 8
+    → chosen_lines p line (take (i + 1) order) ≡ chosen_lines p line (take i order) ++ chosen (wants p (option_at i)) (line i)
+one_more p line i h =
+    lines_more p line order i (at "H", setpoints) h
+    ∙ ap (λ (r : ℕ). chosen_lines p line (take i order) ++ chosen (wants p (option_at i)) (line r)) (at_place i h)
+
+-- the whole of a block has room for the lines up to a register and its own
+pub fits_one_more : (p : Print) (line : ℕ → List ℕ) (i n : ℕ) → i < 8 → length (block p line) ≤ n
+    → 0 + length (chosen_lines p line (take i order) ++ chosen (wants p (option_at i)) (line i)) ≤ n
+unfolding block
+fits_one_more p line i n h k =
+    let a = chosen_lines p line (take (i + 1) order) in
+    let b = chosen_lines p line (drop (i + 1) order) in
+    let e : chosen_lines p line order ≡ a ++ b = ap (chosen_lines p line) (sym (take-append-drop (i + 1) order)) ∙ lines_append p line (take (i + 1) order) (drop (i + 1) order) in
+    rw (← one_more p line i h) (omega (arith, length-append (chosen_lines p line order) (chosen (some p order) block_end), ap length e, length-append a b))
 
 -- no register behind H stands in a list
 abbrev to_h : List (ℕ × Option) → Bool
@@ -140,17 +187,17 @@ any_line p = by p.input p.total p.extremes p.setpoints
     by false false false true = refl
     by false false false false = refl
 
-twice : (wanted : Bool) → cond wanted 2 0 ≡ cond wanted 1 0 + cond wanted 1 0
-twice true = refl
-twice false = refl
+bit : (wanted : Bool) → from_bool wanted ≡ cond wanted 1 0
+bit true = refl
+bit false = refl
 
-four_times : (wanted : Bool) → cond wanted 4 0 ≡ cond wanted 2 0 + cond wanted 2 0
-four_times true = refl
-four_times false = refl
-
-pub all_counted : (p : Print) → line_count p order ≡ cond p.input 1 0 + cond p.total 1 0 + cond p.extremes 2 0 + cond p.setpoints 4 0
+pub all_counted : (p : Print) → line_count p order ≡ from_bool p.input + from_bool p.total + 2 * from_bool p.extremes + 4 * from_bool p.setpoints
 unfolding line_count
-all_counted p = omega (arith, twice p.extremes, twice p.setpoints, four_times p.setpoints)
+all_counted p = omega (arith, bit p.input, bit p.total, bit p.extremes, bit p.setpoints)
+
+pub end_counted : (wanted : Bool) → cond wanted 3 0 ≡ 3 * from_bool wanted
+end_counted true = refl
+end_counted false = refl
 
 -- ── the lines of some values ──
 

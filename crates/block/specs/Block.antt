@@ -1,5 +1,5 @@
 -- A block print: the lines of the chosen registers, and the end. What a register's line is, is said elsewhere.
-use Rattle.std.specs.Prelude.{ℕ, ◌+◌, ◌*◌, Bool, false, cond, ◌||◌, List, [], ◌∷◌, ◌++◌}
+use Rattle.std.specs.Prelude.{ℕ, ◌+◌, ◌*◌, Bool, false, cond, ◌||◌, List, [], ◌∷◌, ◌++◌, get_or}
 use Rattle.register.specs.Bytes.{ascii}
 use Rattle.register.specs.Registers.{at}
 use Rattle.register.specs.declared.Print.{Print}
@@ -29,6 +29,10 @@ order =
     ∷ (at "G", setpoints)
     ∷ (at "H", setpoints)
     ∷ []
+
+-- the option that the register at a place of the order is printed by
+abbrev pub option_at : ℕ → Option
+option_at r = (get_or order r (at "H", setpoints)).1
 
 -- a text where it is chosen, else nothing
 abbrev pub chosen : Bool → List ℕ → List ℕ

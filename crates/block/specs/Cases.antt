@@ -1,5 +1,5 @@
 -- Replies as the bytes that they are: the examples of the documents, the longest numbers and the shortest, the marks, and blocks.
-use Rattle.std.specs.Prelude.{ℕ, Bool, true, false, List, [], ◌∷◌, ◌++◌, pos, replicate}
+use Rattle.std.specs.Prelude.{ℕ, Bool, true, false, List, [], ◌∷◌, ◌++◌, Option, None, Some, pos, replicate}
 use Prim.Native.Char.{Char}
 use Rattle.exact.specs.Sign.{minus}
 use Rattle.reading.specs.declared.Reading.{Reading}
@@ -10,8 +10,6 @@ use Rattle.register.specs.declared.Print.{Print}
 use Rattle.line.specs.Buffer.{answer}
 use Rattle.line.specs.Line.{line}
 use Rattle.line.specs.declared.Style.{Style}
-use Rattle.line.specs.declared.Written.{Written}
-use Rattle.line.specs.declared.Written.TheVariants.{Bytes, NoRoom}
 use Rattle.block.specs.declared.Values.{Values}
 use Rattle.block.specs.Block.{block}
 use Rattle.block.specs.Values.{value_line}
@@ -118,22 +116,22 @@ cases =
 pub record Placed : Type 0 where
   pub reply : List ℕ
   pub place : ℕ
-  pub written : Written
+  pub written : Option ℕ
 
-abbrev put : List ℕ → ℕ → Written → Placed
+abbrev put : List ℕ → ℕ → Option ℕ → Placed
 put reply place written = record { reply = reply; place = place; written = written }
 
 abbrev pub placed : List Placed
 placed =
-    put (block_of (full 5) all wide) 3 (Bytes 163)
-    ∷ put (block_of (full 5) all wide) 4 NoRoom
-    ∷ put (block_of (full 5) all wide) 18446744073709551615 NoRoom
-    ∷ put (block_of (abbreviated 5) all wide) 51 (Bytes 115)
-    ∷ put (block_of (abbreviated 5) all wide) 52 NoRoom
+    put (block_of (full 5) all wide) 3 (Some 163)
+    ∷ put (block_of (full 5) all wide) 4 None
+    ∷ put (block_of (full 5) all wide) 18446744073709551615 None
+    ∷ put (block_of (abbreviated 5) all wide) 51 (Some 115)
+    ∷ put (block_of (abbreviated 5) all wide) 52 None
     -- nothing has room up to the end, and none past it
-    ∷ put (block_of (full 5) none wide) 166 (Bytes 0)
-    ∷ put (block_of (full 5) none wide) 167 NoRoom
+    ∷ put (block_of (full 5) none wide) 166 (Some 0)
+    ∷ put (block_of (full 5) none wide) 167 None
     ∷ []
 
-abbrev pub becomes : Placed → Written
+abbrev pub becomes : Placed → Option ℕ
 becomes p = answer (replicate 166 (byte ".")) p.place p.reply

@@ -10,10 +10,10 @@ use Rattle.register.specs.Bytes.{byte}
 use Rattle.numeral.specs.Number.{is_digit}
 use Rattle.command.specs.Parse.{body, second_digit, first_digit, parse}
 use Rattle.command.specs.Addressed.{leading, numbered, addressed, parsed_node}
-use Rattle.command.specs.declared.Parsed.TheVariants.{NoNode, To}
+use Rattle.std.specs.Prelude.{None, Some}
 
 second_by : (d b : ℕ) (s : List ℕ) (t : Bool)
-    → parsed_node (cond t (To (10 * d + (b - byte "0")) (body s)) (To d (body (b ∷ s)))) ≡ numbered (d ∷ cond t ((b - byte "0") ∷ leading 0 s) [])
+    → parsed_node (cond t (Some (10 * d + (b - byte "0"), body s)) (Some (d, body (b ∷ s)))) ≡ numbered (d ∷ cond t ((b - byte "0") ∷ leading 0 s) [])
 second_by d b s true = ap some (omega arith)
 second_by d b s false = ap some (omega arith)
 
@@ -23,7 +23,7 @@ second d [] = ap some (omega arith)
 second d (b ∷ s) = second_by d b s (is_digit b)
 
 first_by : (b : ℕ) (s : List ℕ) (t : Bool)
-    → parsed_node (cond t (second_digit (b - byte "0") s) NoNode) ≡ numbered (cond t ((b - byte "0") ∷ leading 1 s) [])
+    → parsed_node (cond t (second_digit (b - byte "0") s) None) ≡ numbered (cond t ((b - byte "0") ∷ leading 1 s) [])
 first_by b s true = second (b - byte "0") s
 first_by b s false = refl
 
@@ -33,7 +33,7 @@ first [] = refl
 first (b ∷ s) = first_by b s (is_digit b)
 
 parse_by : (b : ℕ) (s : List ℕ) (t : Bool)
-    → parsed_node (cond t (first_digit s) (To 0 (body (b ∷ s)))) ≡ cond t (numbered (leading 2 s)) (some 0)
+    → parsed_node (cond t (first_digit s) (Some (0, body (b ∷ s)))) ≡ cond t (numbered (leading 2 s)) (some 0)
 parse_by b s true = first s
 parse_by b s false = refl
 

@@ -1,10 +1,9 @@
 -- Which node a string is addressed to, if any, said from its bytes whether or not its form is bad.
-use Rattle.std.specs.Prelude.{ℕ, zero, suc, ◌-◌, cond, List, [], ◌∷◌, eqb}
+use Rattle.std.specs.Prelude.{ℕ, zero, suc, ◌-◌, cond, List, [], ◌∷◌, eqb, None, Some}
 use Rattle.std.proofs.Math.Option.{Option, none, some}
 use Rattle.register.specs.Bytes.{byte}
 use Rattle.numeral.specs.Number.{is_digit, value}
-use Rattle.command.specs.declared.Parsed.{Parsed}
-use Rattle.command.specs.declared.Parsed.TheVariants.{NoNode, To}
+use Rattle.command.specs.Parse.{Parsed}
 
 -- the digits that a string begins with, at most k of them
 abbrev pub leading : ℕ → List ℕ → List ℕ
@@ -24,5 +23,5 @@ addressed (b ∷ s) = cond (eqb b (byte "N")) (numbered (leading 2 s)) (some 0)
 
 -- the node that the parser finds
 abbrev pub parsed_node : Parsed → Option ℕ
-parsed_node NoNode = none
-parsed_node (To n a) = some n
+parsed_node None = none
+parsed_node (Some (n, a)) = some n

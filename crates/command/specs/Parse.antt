@@ -1,5 +1,5 @@
 -- What a string asks, read from its first byte to its last. Crate `form` says the same by rules, and that both agree.
-use Rattle.std.specs.Prelude.{ℕ, ◌+◌, ◌-◌, ◌*◌, cond, List, [], ◌∷◌, leb, eqb}
+use Rattle.std.specs.Prelude.{ℕ, ◌+◌, ◌-◌, ◌*◌, cond, List, [], ◌∷◌, Option, None, Some, leb, eqb}
 use Rattle.register.specs.Bytes.{byte}
 use Rattle.register.specs.Registers.{entry, count, index}
 use Rattle.register.specs.declared.Writes.{Writes}
@@ -9,8 +9,6 @@ use Rattle.numeral.specs.declared.Number.{Number}
 use Rattle.numeral.specs.declared.Number.TheVariants.{Is, Held, NoNumber}
 use Rattle.command.specs.declared.Asked.{Asked}
 use Rattle.command.specs.declared.Asked.TheVariants.{Read, Print, Reset, Write, Status, BadForm}
-use Rattle.command.specs.declared.Parsed.{Parsed}
-use Rattle.command.specs.declared.Parsed.TheVariants.{NoNode, To}
 
 -- ── command, register, data ──
 
@@ -65,16 +63,20 @@ body (b ∷ s) =
     (cond (eqb b (byte "P")) (printing s)
     BadForm)))
 
+-- for which node, and what is asked of it; none for an N with no digit
+abbrev pub Parsed : Type 0
+Parsed = Option (ℕ × Asked)
+
 -- ── the address: N with one or two digits, as many as stand there; no N means node 0 ──
 
 unfoldable pub second_digit : ℕ → List ℕ → Parsed
-second_digit d [] = To d BadForm
-second_digit d (b ∷ s) = cond (is_digit b) (To (10 * d + (b - byte "0")) (body s)) (To d (body (b ∷ s)))
+second_digit d [] = Some (d, BadForm)
+second_digit d (b ∷ s) = cond (is_digit b) (Some (10 * d + (b - byte "0"), body s)) (Some (d, body (b ∷ s)))
 
 unfoldable pub first_digit : List ℕ → Parsed
-first_digit [] = NoNode
-first_digit (b ∷ s) = cond (is_digit b) (second_digit (b - byte "0") s) NoNode
+first_digit [] = None
+first_digit (b ∷ s) = cond (is_digit b) (second_digit (b - byte "0") s) None
 
 unfoldable pub parse : List ℕ → Parsed
-parse [] = To 0 BadForm
-parse (b ∷ s) = cond (eqb b (byte "N")) (first_digit s) (To 0 (body (b ∷ s)))
+parse [] = Some (0, BadForm)
+parse (b ∷ s) = cond (eqb b (byte "N")) (first_digit s) (Some (0, body (b ∷ s)))

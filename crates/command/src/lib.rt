@@ -10,7 +10,7 @@ use numeral::Number;
 use register::{Limits, Writes};
 
 // What a string asks: T reads a register, P prints a block, R resets a register, V writes a number that the register holds, or a byte to J.
-// A register is given by its place in the table.
+// A register is given by its place in the table. BadForm stands among them, since document 01 answers it for a node as it does the others.
 #[derive(Clone, Copy)]
 pub enum Asked {
     Read(usize),
@@ -21,30 +21,24 @@ pub enum Asked {
     BadForm,
 }
 
-// For which node, and what is asked of it. NoNode: an N with no digit.
-#[derive(Clone, Copy)]
-pub enum Parsed {
-    NoNode,
-    To(u8, Asked),
-}
-
-// The register of T and R, whose letter is all that stands there: its place, and past the table's end for anything else.
+// The register of T and R, whose letter is all that stands there: its place, and past the table's end for anything else, where the table
+// says of a register that no command takes it. So nobody has to ask whether there is one.
 fn sole_register(s: &[u8]) -> usize
     ensures { result ≡ sole s.now }
 {
-    if s.len() != 1 {
-        return register::COUNT;
+    match s {
+        [letter] => register::index_of(*letter),
+        _ => register::COUNT,
     }
-    register::index_of(s[0])
 }
 
-// Behind T: one register.
+// Behind T: one register. R is told the same way; the two differ in the field that is asked and in what comes of it, and a function of both
+// would take these two and say no less.
 fn read(s: &[u8]) -> Asked
     ensures { result ≡ reading s.now }
 {
     let i = sole_register(s);
-    let e = register::register_at(i);
-    if e.read {
+    if register::register_at(i).read {
         Asked::Read(i)
     } else {
         Asked::BadForm
@@ -56,8 +50,7 @@ fn reset(s: &[u8]) -> Asked
     ensures { result ≡ resetting s.now }
 {
     let i = sole_register(s);
-    let e = register::register_at(i);
-    if e.reset {
+    if register::register_at(i).reset {
         Asked::Reset(i)
     } else {
         Asked::BadForm
@@ -68,7 +61,7 @@ fn reset(s: &[u8]) -> Asked
 fn print(s: &[u8]) -> Asked
     ensures { result ≡ printing s.now }
 {
-    if s.len() == 0 {
+    if s.is_empty() {
         Asked::Print
     } else {
         Asked::BadForm
@@ -79,12 +72,8 @@ fn print(s: &[u8]) -> Asked
 fn status(s: &[u8]) -> Asked
     ensures { result ≡ status s.now }
 {
-    if s.len() != 1 {
-        return Asked::BadForm;
-    }
-    let b = s[0];
-    match b {
-        0..=127 => Asked::Status(b),
+    match s {
+        [b @ 0..=127] => Asked::Status(*b),
         _ => Asked::BadForm,
     }
 }
@@ -93,10 +82,8 @@ fn status(s: &[u8]) -> Asked
 fn write_number(i: usize, limits: Limits, s: &[u8]) -> Asked
     ensures { result ≡ write_to i (number limits s.now) }
 {
-    let n = numeral::number_of(limits, s);
-    match n {
-        Number::Is(z) => Asked::Write(i, z),
-        Number::Held(z) => Asked::Write(i, z),
+    match numeral::number_of(limits, s) {
+        Number::Is(z) | Number::Held(z) => Asked::Write(i, z),
         Number::NoNumber => Asked::BadForm,
     }
 }
@@ -116,89 +103,63 @@ fn data_of(i: usize, written: Writes, s: &[u8]) -> Asked
 fn write(s: &[u8]) -> Asked
     ensures { result ≡ writing s.now }
 {
-    if s.len() == 0 {
-        return Asked::BadForm;
+    match s {
+        [letter, data @ ..] => {
+            let i = register::index_of(*letter);
+            data_of(i, register::written_at(i), data)
+        }
+        _ => Asked::BadForm,
     }
-    let i = register::index_of(s[0]);
-    let written = register::written_at(i);
-    data_of(i, written, &s[1..])
 }
 
 // What stands behind the address: command, register, data.
 fn body(s: &[u8]) -> Asked
     ensures { result ≡ body s.now }
 {
-    if s.len() == 0 {
-        return Asked::BadForm;
-    }
-    let b = s[0];
-    let rest = &s[1..];
-    match b {
-        b'T' => read(rest),
-        b'V' => write(rest),
-        b'R' => reset(rest),
-        b'P' => print(rest),
+    match s {
+        [b'T', rest @ ..] => read(rest),
+        [b'V', rest @ ..] => write(rest),
+        [b'R', rest @ ..] => reset(rest),
+        [b'P', rest @ ..] => print(rest),
         _ => Asked::BadForm,
     }
 }
 
 // Behind N and a digit: a second digit, if one stands there.
-fn second_digit(d: u8, s: &[u8]) -> Parsed
+fn second_digit(d: u8, s: &[u8]) -> Option<(u8, Asked)>
     requires { d < 10 }
     ensures { result ≡ second_digit d s.now }
 {
-    if s.len() == 0 {
-        return Parsed::To(d, Asked::BadForm);
-    }
-    let b = s[0];
-    match b {
-        b'0'..=b'9' => {
-            let a = body(&s[1..]);
-            Parsed::To(10 * d + (b - b'0'), a)
-        }
-        _ => {
-            let a = body(s);
-            Parsed::To(d, a)
-        }
+    match s {
+        [b @ b'0'..=b'9', rest @ ..] => Some((10 * d + (*b - b'0'), body(rest))),
+        _ => Some((d, body(s))),
     }
 }
 
 // Behind N: one or two digits.
-fn first_digit(s: &[u8]) -> Parsed
+fn first_digit(s: &[u8]) -> Option<(u8, Asked)>
     ensures { result ≡ first_digit s.now }
 {
-    if s.len() == 0 {
-        return Parsed::NoNode;
-    }
-    let b = s[0];
-    match b {
-        b'0'..=b'9' => second_digit(b - b'0', &s[1..]),
-        _ => Parsed::NoNode,
+    match s {
+        [b @ b'0'..=b'9', rest @ ..] => second_digit(*b - b'0', rest),
+        _ => None,
     }
 }
 
-// A string, without the byte that ends it.
-pub fn parse(s: &[u8]) -> Parsed
+// A string, without the byte that ends it: for which node, and what is asked of it. None: an N with no digit.
+pub fn parse(s: &[u8]) -> Option<(u8, Asked)>
     ensures { result ≡ parse s.now }
 {
-    if s.len() == 0 {
-        return Parsed::To(0, Asked::BadForm);
-    }
-    let b = s[0];
-    match b {
-        b'N' => first_digit(&s[1..]),
-        _ => {
-            let a = body(s);
-            Parsed::To(0, a)
-        }
+    match s {
+        [b'N', rest @ ..] => first_digit(rest),
+        _ => Some((0, body(s))),
     }
 }
 
 // The string that a receiver holds, where it stands: the first bytes of its room, as many as its length says.
-pub fn parse_held(held: &[u8; 32], length: usize) -> Parsed
+pub fn parse_held(held: &[u8; 32], length: usize) -> Option<(u8, Asked)>
     requires { length ≤ 32 }
     ensures { result ≡ parse (take length held.now) }
 {
-    let s: &[u8] = held;
-    parse(&s[..length])
+    parse(&held[..length])
 }

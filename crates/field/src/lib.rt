@@ -1,4 +1,5 @@
-// The 12 data bytes of a reply line: a number with its decimal places, or a mark, right-justified.
+// The 12 data bytes of a reply line: a number with its decimal places, or a mark, right-justified. At most four places are asked in clauses,
+// here and above: the calls are promised for a plain number of them, and a type that holds it would ask more of whoever has one.
 #![tactic(auto)]
 
 ghost use Rattle.std.specs.Prelude.{◌≡◌, ◌-◌, ◌≤◌, ◌<◌, ◌^◌, nat_abs, length, replicate};
@@ -19,11 +20,10 @@ fn put_digits(buf: &mut [u8], n: u32)
     ensures { buf.new ≡ digits (length buf.old) n }
 {
     let mut left = n;
-    let mut i = buf.len();
-    while 0 < i {
-        i -= 1;
+    // by place, since of what is written through `iter_mut` no more than the length is known afterwards
+    for i in (0..buf.len()).rev() {
         buf[i] = last_digit(left);
-        left = left / 10;
+        left /= 10;
     }
 }
 
@@ -34,14 +34,15 @@ fn put_whole(buf: &mut [u8], n: u32) -> usize
 {
     let mut left = n;
     let mut i = buf.len();
-    while 10 <= left {
+    // it ends by the number and not by the field, so no range gives its turns
+    loop {
         i -= 1;
         buf[i] = last_digit(left);
-        left = left / 10;
+        if left < 10 {
+            return i;
+        }
+        left /= 10;
     }
-    i -= 1;
-    buf[i] = last_digit(left);
-    i
 }
 
 // The point and a digit for each place at the right end of the field. The answer is where they start.
@@ -60,14 +61,6 @@ fn put_fraction(buf: &mut [u8], places: usize, n: u32) -> usize
     point
 }
 
-// How far n lies from zero.
-fn size(n: i32) -> u32
-    requires { nat_abs n < 10 ^ 9 }
-    ensures { result ≡ nat_abs n }
-{
-    if n < 0 { (0 - n) as u32 } else { n as u32 }
-}
-
 // The minus of a number below zero at the right end of what is left of the field.
 fn put_sign(buf: &mut [u8], n: i32)
     requires { length (sign n) ≤ length buf.old }
@@ -84,7 +77,7 @@ fn put_number(buf: &mut [u8], places: usize, n: i32)
     requires { (places ≤ 4) × (nat_abs n < 10 ^ 9) × (length (number places n) ≤ length buf.old) }
     ensures { buf.new ≡ at_right buf.old (number places n) }
 {
-    let size = size(n);
+    let size = n.unsigned_abs();
     let power = exact::power_of_ten(places);
     // beside the remainder, so that one division gives both
     let whole = size / power;
@@ -93,29 +86,13 @@ fn put_number(buf: &mut [u8], places: usize, n: i32)
     put_sign(&mut buf[0..start], n);
 }
 
-// Fills a part of the field with spaces.
-fn put_spaces(buf: &mut [u8])
-    ensures { buf.new ≡ replicate (length buf.old) (byte " ") }
-{
-    let mut start = buf.len();
-    while 0 < start {
-        start -= 1;
-        buf[start] = b' ';
-    }
-}
-
 // A mark at the right end of the field.
 fn put_mark(buf: &mut [u8], mark: &[u8])
     requires { length mark.now ≤ length buf.old }
     ensures { buf.new ≡ at_right buf.old mark.now }
 {
-    let mut at = buf.len();
-    let mut i = mark.len();
-    while 0 < i {
-        at -= 1;
-        i -= 1;
-        buf[at] = mark[i];
-    }
+    let start = buf.len() - mark.len();
+    buf[start..].copy_from_slice(mark);
 }
 
 // The 12 data bytes, in their place: spaces, and a number or a mark over the right end of them, so that nothing shows of what stood there before.
@@ -123,7 +100,7 @@ pub fn fill(part: &mut [u8], places: usize, shown: Reading)
     requires { Showable places shown × (length part.old ≡ 12) }
     ensures { part.new ≡ field places shown }
 {
-    put_spaces(part);
+    part.fill(b' ');
     match shown {
         Reading::Nothing => put_mark(part, b"----"),
         Reading::Under => put_mark(part, b"ULUL"),

@@ -18,14 +18,12 @@ use Rattle.form.specs.Grammar.{Digit, BeginsN, BeginsDigit, Figures, LastFive, W
 use Rattle.register.specs.declared.Limits.{Limits}
 use Rattle.register.specs.declared.Writes.{Writes}
 use Rattle.register.specs.declared.Writes.TheVariants.{Nothing, Number as Limited, Byte}
-use Rattle.numeral.specs.declared.Amount.{Amount}
-use Rattle.numeral.specs.declared.Amount.TheVariants.{Of, NoAmount}
+use Rattle.std.specs.Prelude.{Option, None, Some}
 use Rattle.numeral.specs.declared.Number.{Number}
 use Rattle.numeral.specs.declared.Number.TheVariants.{NoNumber}
 use Rattle.command.specs.declared.Asked.{Asked}
 use Rattle.command.specs.declared.Asked.TheVariants.{Read, Reset, Status, BadForm}
-use Rattle.command.specs.declared.Parsed.{Parsed}
-use Rattle.command.specs.declared.Parsed.TheVariants.{NoNode, To}
+use Rattle.command.specs.Parse.{Parsed}
 use Rattle.exact.proofs.Z.{never, both}
 use Rattle.exact.proofs.Held.{held_is}
 use Rattle.register.proofs.Table.{index_of_letter, numbered, byte_at}
@@ -69,10 +67,10 @@ filled_found [] e = never e
 filled_found (d ∷ ds) e = λ k. never (ap filled (sym k))
 
 -- an amount stands there, or none
-abbrev Counted : List ℕ → Amount → Type 0
-Counted s a = (a ≡ NoAmount) ⊎ ((n : ℕ) × (a ≡ Of n) × Counts n s)
+abbrev Counted : List ℕ → Option ℕ → Type 0
+Counted s a = (a ≡ None) ⊎ ((n : ℕ) × (a ≡ Some n) × Counts n s)
 
-amount_by : (s : List ℕ) (t : Bool) → (figures s && filled (digits s)) ≡ t → Counted s (cond t (Of (value (last 5 (digits s)))) NoAmount)
+amount_by : (s : List ℕ) (t : Bool) → (figures s && filled (digits s)) ≡ t → Counted s (cond t (Some (value (last 5 (digits s)))) None)
 amount_by s true e =
     let p = both (figures s) (filled (digits s)) e in
     inr (value (last 5 (digits s)), refl, form.counts (figures_found s p.0) (filled_found (digits s) p.1) (last_five_found (digits s)) (worth_found (last 5 (digits s))))
@@ -214,7 +212,7 @@ digit_some (form.begins_digit h) = λ e. let z : ◌≡◌ {A = ℕ} 0 1 = cc in
 
 -- a string names a node or not
 abbrev pub Named : Parsed → List ℕ → Type 0
-Named p s = (p ≡ NoNode) ⊎ ((n : ℕ) × For s n)
+Named p s = (p ≡ None) ⊎ ((n : ℕ) × For s n)
 
 two_by : (d b c : ℕ) (s : List ℕ) (t : Bool) → is_digit c ≡ t → Digit d b → (n : ℕ) × For (byte "N" ∷ b ∷ c ∷ s) n
 two_by d b c s true e h =
@@ -226,7 +224,7 @@ pub two_for : (d b : ℕ) (s : List ℕ) → Digit d b → (n : ℕ) × For (byt
 two_for d b [] h = (d, record { part = byte "N" ∷ b ∷ []; rest = []; whole = refl; address = form.one_digit h (λ g. digit_some g refl) })
 two_for d b (c ∷ s) h = two_by d b c s (is_digit c) refl h
 
-first_by : (b : ℕ) (s : List ℕ) (t : Bool) → is_digit b ≡ t → Named (cond t (second_digit (b - byte "0") s) NoNode) (byte "N" ∷ b ∷ s)
+first_by : (b : ℕ) (s : List ℕ) (t : Bool) → is_digit b ≡ t → Named (cond t (second_digit (b - byte "0") s) None) (byte "N" ∷ b ∷ s)
 first_by b s true e = inr (two_for (b - byte "0") b s (digit_of b e))
 first_by b s false e = inl refl
 
@@ -235,7 +233,7 @@ unfolding first_digit
 first_found [] = inl refl
 first_found (b ∷ s) = first_by b s (is_digit b) refl
 
-parse_by : (b : ℕ) (s : List ℕ) (t : Bool) → eqb b (byte "N") ≡ t → Named (cond t (first_digit s) (To 0 (body (b ∷ s)))) (b ∷ s)
+parse_by : (b : ℕ) (s : List ℕ) (t : Bool) → eqb b (byte "N") ≡ t → Named (cond t (first_digit s) (Some (0, body (b ∷ s)))) (b ∷ s)
 parse_by b s true e = subst (λ (x : ℕ). Named (first_digit s) (x ∷ s)) (sym (eqb-true b (byte "N") e)) (first_found s)
 parse_by b s false e =
     inr (0, record { part = []; rest = b ∷ s; whole = refl; address = form.no_n (λ g. eqb-false b (byte "N") e (n_first g b s refl)) })

@@ -16,8 +16,8 @@ use Rattle.command.specs.Addressed.{addressed, parsed_node}
 use Rattle.command.proofs.Addressed.{parsed_node_lem}
 use Rattle.command.specs.declared.Asked.{Asked}
 use Rattle.command.specs.declared.Asked.TheVariants.{BadForm}
-use Rattle.command.specs.declared.Parsed.{Parsed}
-use Rattle.command.specs.declared.Parsed.TheVariants.{NoNode, To}
+use Rattle.command.specs.Parse.{Parsed}
+use Rattle.std.specs.Prelude.{None, Some}
 use Rattle.form.specs.Grammar as form
 use Rattle.form.specs.Grammar.{BeginsN, BeginsDigit, Address, Body, For, Says, NoDigit}
 use Rattle.form.specs.Understood.{Silent}
@@ -32,19 +32,21 @@ never_bad form.print = λ k. let z : ◌≡◌ {A = ℕ} 0 1 = cc in omega arith
 never_bad (form.write h e j n) = λ k. let z : ◌≡◌ {A = ℕ} 0 1 = cc in omega arith
 never_bad (form.status h) = λ k. let z : ◌≡◌ {A = ℕ} 0 1 = cc in omega arith
 
-pub same : {m n : ℕ} {a b : Asked} → To m a ≡ To n b → (m ≡ n) × (a ≡ b)
-same e = (cc, cc)
+pub same : {m n : ℕ} {a b : Asked} → ◌≡◌ {A = Parsed} (Some (m, a)) (Some (n, b)) → (m ≡ n) × (a ≡ b)
+same {m = m} {n = n} {a = a} {b = b} e =
+    let p : ◌≡◌ {A = ℕ × Asked} (m, a) (n, b) = cc in
+    (ap (λ (x : ℕ × Asked). x.0) p, ap (λ (x : ℕ × Asked). x.1) p)
 
-pub apart : {n : ℕ} {a : Asked} {p : Parsed} → p ≡ To n a → p ≡ NoNode → ⊥
+pub apart : {n : ℕ} {a : Asked} {p : Parsed} → p ≡ Some (n, a) → p ≡ None → ⊥
 apart e k = let z : ◌≡◌ {A = ℕ} 0 1 = cc in omega arith
 
 -- ── what is asked ──
 
-pub for_parse : {s : List ℕ} {n : ℕ} (f : For s n) → parse s ≡ To n (body f.rest)
+pub for_parse : {s : List ℕ} {n : ℕ} (f : For s n) → parse s ≡ Some (n, body f.rest)
 for_parse f = ap parse f.whole ∙ address_said f.address
 
-pub says_parse : {s : List ℕ} {n : ℕ} {a : Asked} → Says s n a → parse s ≡ To n a
-says_parse {n = n} h = for_parse h.to ∙ ap (To n) (body_said h.body)
+pub says_parse : {s : List ℕ} {n : ℕ} {a : Asked} → Says s n a → parse s ≡ Some (n, a)
+says_parse {n = n} h = for_parse h.to ∙ ap (λ (x : Asked). Some (n, x)) (body_said h.body)
 
 said_by : {s : List ℕ} {m n : ℕ} {a : Asked} (f : For s m) → m ≡ n → body f.rest ≡ a → a ≢ BadForm → Judged (body f.rest) f.rest → Says s n a
 said_by f e k h (inl b) = absurd (h (sym k ∙ b))
@@ -59,11 +61,11 @@ said_by f e k h (inr b) =
       body = subst (λ (x : Asked). Body x f.rest) k b;
     }
 
-parse_says : (s : List ℕ) (n : ℕ) (a : Asked) → parse s ≡ To n a → a ≢ BadForm → Named (parse s) s → Says s n a
+parse_says : (s : List ℕ) (n : ℕ) (a : Asked) → parse s ≡ Some (n, a) → a ≢ BadForm → Named (parse s) s → Says s n a
 parse_says s n a p h (inl e) = absurd (apart p e)
 parse_says s n a p h (inr q) = let e = same (sym (for_parse q.1) ∙ p) in said_by q.1 e.0 e.1 h (body_found q.1.rest)
 
-pub asked : (s : List ℕ) (n : ℕ) (a : Asked) → Says s n a ↔ ((parse s ≡ To n a) × (a ≢ BadForm))
+pub asked : (s : List ℕ) (n : ℕ) (a : Asked) → Says s n a ↔ ((parse s ≡ Some (n, a)) × (a ≢ BadForm))
 asked s n a =
     (λ h. (says_parse h, never_bad h.body), λ p. parse_says s n a p.0 p.1 (address_found s))
 
@@ -75,15 +77,15 @@ one_meaning s m n a b f g = same (sym (says_parse f) ∙ says_parse g)
 
 -- ── bad form ──
 
-for_bad : (s : List ℕ) (n : ℕ) → parse s ≡ To n BadForm → Named (parse s) s → For s n
+for_bad : (s : List ℕ) (n : ℕ) → parse s ≡ Some (n, BadForm) → Named (parse s) s → For s n
 for_bad s n p (inl e) = absurd (apart p e)
 for_bad s n p (inr q) = subst (For s) (same (sym (for_parse q.1) ∙ p)).0 q.1
 
-bad_for : (s : List ℕ) (n : ℕ) (f : For s n) → Silent s n → Judged (body f.rest) f.rest → parse s ≡ To n BadForm
-bad_for s n f h (inl e) = for_parse f ∙ ap (To n) e
+bad_for : (s : List ℕ) (n : ℕ) (f : For s n) → Silent s n → Judged (body f.rest) f.rest → parse s ≡ Some (n, BadForm)
+bad_for s n f h (inl e) = for_parse f ∙ ap (λ (x : Asked). Some (n, x)) e
 bad_for s n f h (inr b) = absurd (h (body f.rest) (said_by f refl refl (never_bad b) (inr b)))
 
-pub bad_form : (s : List ℕ) (n : ℕ) → (parse s ≡ To n BadForm) ↔ (For s n × Silent s n)
+pub bad_form : (s : List ℕ) (n : ℕ) → (parse s ≡ Some (n, BadForm)) ↔ (For s n × Silent s n)
 bad_form s n = (
   λ p. (for_bad s n p (address_found s), λ a h. never_bad h.body (same (sym (says_parse h) ∙ p)).1),
   λ q. bad_for s n q.0 q.1 (body_found q.0.rest),
@@ -91,17 +93,17 @@ bad_form s n = (
 
 -- ── no node ──
 
-first_none_by : (b : ℕ) (s : List ℕ) (t : Bool) → is_digit b ≡ t → (BeginsDigit (b ∷ s) → ⊥) → first_digit (b ∷ s) ≡ NoNode
+first_none_by : (b : ℕ) (s : List ℕ) (t : Bool) → is_digit b ≡ t → (BeginsDigit (b ∷ s) → ⊥) → first_digit (b ∷ s) ≡ None
 unfolding first_digit
 first_none_by b s true e h = absurd (h (form.begins_digit (digit_of b e)))
 first_none_by b s false e h = rw e
 
-first_none : (s : List ℕ) → (BeginsDigit s → ⊥) → first_digit s ≡ NoNode
+first_none : (s : List ℕ) → (BeginsDigit s → ⊥) → first_digit s ≡ None
 unfolding first_digit
 first_none [] h = refl
 first_none (b ∷ s) h = first_none_by b s (is_digit b) refl h
 
-digitless : {s : List ℕ} → NoDigit s → parse s ≡ NoNode
+digitless : {s : List ℕ} → NoDigit s → parse s ≡ None
 unfolding parse
 digitless (form.no_digit {s} h) = first_none s h
 
@@ -125,7 +127,7 @@ alone (b ∷ s) h = alone_by b s (eqb b (byte "N")) refl h
 pub nobody : (s : List ℕ) → NoDigit s ↔ ((n : ℕ) → For s n → ⊥)
 nobody s = (λ g n f. apart (for_parse f) (digitless g), alone s)
 
-pub no_node : (s : List ℕ) → (parse s ≡ NoNode) ↔ NoDigit s
+pub no_node : (s : List ℕ) → (parse s ≡ None) ↔ NoDigit s
 no_node s = (λ e. alone s (λ n f. apart (for_parse f) e), λ g. digitless g)
 
 -- ── no choice ──

@@ -17,8 +17,8 @@ use Rattle.receiver.specs.Receiver.{limit, over}
 use Rattle.command.specs.Parse.{body, parse}
 use Rattle.command.specs.declared.Asked.{Asked}
 use Rattle.command.specs.declared.Asked.TheVariants.{Read, Print, Reset, Write, Status, BadForm}
-use Rattle.command.specs.declared.Parsed.{Parsed}
-use Rattle.command.specs.declared.Parsed.TheVariants.{NoNode, To}
+use Rattle.command.specs.Parse.{Parsed}
+use Rattle.std.specs.Prelude.{None, Some}
 use Rattle.form.specs.Grammar as form
 use Rattle.form.specs.Grammar.{Address, Body, Says}
 use Rattle.form.specs.Change as change
@@ -52,21 +52,21 @@ permitted_by : (a : Asked) (s : List ℕ) → Judged a s → Permitted a
 permitted_by a s (inl e) = subst Permitted (sym e) tt
 permitted_by a s (inr b) = permitted_body b
 
-permitted_named : (s : List ℕ) (n : ℕ) (a : Asked) → parse s ≡ To n a → Named (parse s) s → (n ≤ 99) × Permitted a
+permitted_named : (s : List ℕ) (n : ℕ) (a : Asked) → parse s ≡ Some (n, a) → Named (parse s) s → (n ≤ 99) × Permitted a
 permitted_named s n a p (inl e) = absurd (apart p e)
 permitted_named s n a p (inr q) =
     let e = same (sym (for_parse q.1) ∙ p) in
     (rw (← e.0) (node_99 q.1.address), subst Permitted e.1 (permitted_by (body q.1.rest) q.1.rest (body_found q.1.rest)))
 
-pub permitted : (s : List ℕ) (n : ℕ) (a : Asked) → parse s ≡ To n a → (n ≤ 99) × Permitted a
+pub permitted : (s : List ℕ) (n : ℕ) (a : Asked) → parse s ≡ Some (n, a) → (n ≤ 99) × Permitted a
 permitted s n a p = permitted_named s n a p (address_found s)
 
 -- ── a V or R ──
 
-found : (s : List ℕ) (n : ℕ) (a : Asked) → parse s ≡ To n a → a ≢ BadForm → Says s n a
+found : (s : List ℕ) (n : ℕ) (a : Asked) → parse s ≡ Some (n, a) → a ≢ BadForm → Says s n a
 found s n a p h = (asked s n a).1 (p, h)
 
-alters_says : (s : List ℕ) (n : ℕ) (a : Asked) → parse s ≡ To n a → alters a ≡ true → VOrR s n
+alters_says : (s : List ℕ) (n : ℕ) (a : Asked) → parse s ≡ Some (n, a) → alters a ≡ true → VOrR s n
 alters_says s n (Read r) p e = never e
 alters_says s n Print p e = never e
 alters_says s n (Reset r) p e = change.reset (found s n (Reset r) p (λ k. let z : ◌≡◌ {A = ℕ} 0 1 = cc in omega arith))
@@ -75,10 +75,10 @@ alters_says s n (Status b) p e = change.status (found s n (Status b) p (λ k. le
 alters_says s n BadForm p e = never e
 
 alters_at_says : (s : List ℕ) (n : ℕ) (p : Parsed) → parse s ≡ p → alters_at n p ≡ true → VOrR s n
-alters_at_says s n NoNode k e = never e
-alters_at_says s n (To m a) k e =
+alters_at_says s n None k e = never e
+alters_at_says s n (Some (m, a)) k e =
     let q = both (eqb m n) (alters a) e in
-    alters_says s n a (k ∙ ap (λ (i : ℕ). To i a) (eqb-true m n q.0)) q.1
+    alters_says s n a (k ∙ ap (λ (i : ℕ). Some (i, a)) (eqb-true m n q.0)) q.1
 
 says_alters : {s : List ℕ} {n : ℕ} → VOrR s n → alters_at n (parse s) ≡ true
 says_alters {n = n} (change.reset h) = rw (says_parse h, eq-eqb n n refl)

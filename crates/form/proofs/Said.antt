@@ -18,11 +18,10 @@ use Rattle.numeral.specs.Number.{is_digit, figures, digits, filled, value, last,
 use Rattle.command.specs.Parse.{sole, reading, resetting, printing, status, write_to, data_of, writing, body, first_digit, second_digit, parse}
 use Rattle.form.specs.Grammar as form
 use Rattle.form.specs.Grammar.{Digit, BeginsN, BeginsDigit, Address, Figures, LastFive, Worth, Counts, Numeral, Letter, Body}
-use Rattle.numeral.specs.declared.Amount.TheVariants.{Of}
+use Rattle.std.specs.Prelude.{Some}
 use Rattle.numeral.specs.declared.Number.TheVariants.{Is, Held}
 use Rattle.command.specs.declared.Asked.{Asked}
 use Rattle.command.specs.declared.Asked.TheVariants.{Read, Reset, Write, Status}
-use Rattle.command.specs.declared.Parsed.TheVariants.{To}
 use Rattle.register.proofs.Ranges.{in_range, range}
 use Rattle.register.proofs.Table.{letter_index}
 use Rattle.numeral.proofs.Digits.{value_more, last_end, last_all}
@@ -59,7 +58,7 @@ worth_said : {n : ℕ} {ds : List ℕ} → Worth n ds → value ds ≡ n
 worth_said form.zero = refl
 worth_said (form.more {ds = ds} d w) = value_more ds d ∙ ap (λ (m : ℕ). 10 * m + d) (worth_said w)
 
-counts_said : {n : ℕ} {s : List ℕ} → Counts n s → amount s ≡ Of n
+counts_said : {n : ℕ} {s : List ℕ} → Counts n s → amount s ≡ Some n
 unfolding amount
 counts_said (form.counts {ds = ds} {s = s} f h l w) =
     let r = figures_said f in
@@ -121,22 +120,22 @@ body_said (form.status h) = status_said h
 
 -- ── the address, read as it stands ──
 
-no_n_said : (rest : List ℕ) → (BeginsN rest → ⊥) → parse rest ≡ To 0 (body rest)
+no_n_said : (rest : List ℕ) → (BeginsN rest → ⊥) → parse rest ≡ Some (0, body rest)
 unfolding parse body
 no_n_said [] h = refl
 no_n_said (b ∷ s) h = rw (ne_eqb b (byte "N") (λ e. h (subst (λ (x : ℕ). BeginsN (x ∷ s)) (sym e) form.begins_n)))
 
-second_by : (d b : ℕ) (s : List ℕ) (t : Bool) → is_digit b ≡ t → (BeginsDigit (b ∷ s) → ⊥) → second_digit d (b ∷ s) ≡ To d (body (b ∷ s))
+second_by : (d b : ℕ) (s : List ℕ) (t : Bool) → is_digit b ≡ t → (BeginsDigit (b ∷ s) → ⊥) → second_digit d (b ∷ s) ≡ Some (d, body (b ∷ s))
 unfolding second_digit
 second_by d b s true e h = absurd (h (form.begins_digit (digit_of b e)))
 second_by d b s false e h = rw e
 
-one_said : (d : ℕ) (rest : List ℕ) → (BeginsDigit rest → ⊥) → second_digit d rest ≡ To d (body rest)
+one_said : (d : ℕ) (rest : List ℕ) → (BeginsDigit rest → ⊥) → second_digit d rest ≡ Some (d, body rest)
 unfolding second_digit body
 one_said d [] h = refl
 one_said d (b ∷ s) h = second_by d b s (is_digit b) refl h
 
-pub address_said : {n : ℕ} {part rest : List ℕ} → Address n part rest → parse (part ++ rest) ≡ To n (body rest)
+pub address_said : {n : ℕ} {part rest : List ℕ} → Address n part rest → parse (part ++ rest) ≡ Some (n, body rest)
 unfolding parse first_digit second_digit
 address_said (form.no_n {rest} h) = no_n_said rest h
 address_said (form.one_digit {d} {b} {rest} g h) = rw (digit_test g, digit_value g) (one_said d rest h)

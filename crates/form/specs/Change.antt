@@ -1,11 +1,10 @@
 -- A well-formed V or R to a node: what a string changes, as a test of its bytes and by its form.
-use Rattle.std.specs.Prelude.{ℕ, ◌≤◌, Bool, true, false, not, ◌&&◌, List, eqb, ℤ, length}
+use Rattle.std.specs.Prelude.{ℕ, ◌≤◌, Bool, true, false, not, ◌&&◌, List, eqb, ℤ, length, None, Some}
 use Rattle.receiver.specs.Receiver.{limit, over}
 use Rattle.command.specs.Parse.{parse}
 use Rattle.command.specs.declared.Asked.{Asked}
 use Rattle.command.specs.declared.Asked.TheVariants.{Read, Print, Reset, Write, Status, BadForm}
-use Rattle.command.specs.declared.Parsed.{Parsed}
-use Rattle.command.specs.declared.Parsed.TheVariants.{NoNode, To}
+use Rattle.command.specs.Parse.{Parsed}
 use Rattle.form.specs.Grammar.{Says}
 
 -- V and R change something, T and P only look
@@ -18,8 +17,8 @@ alters (Status b) = true
 alters BadForm = false
 
 abbrev pub alters_at : ℕ → Parsed → Bool
-alters_at n NoNode = false
-alters_at n (To m a) = eqb m n && alters a
+alters_at n None = false
+alters_at n (Some (m, a)) = eqb m n && alters a
 
 -- whether s is a well-formed V or R to node n: at most 32 bytes before its end, and no bad form
 unfoldable pub change : ℕ → List ℕ → Bool

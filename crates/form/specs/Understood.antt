@@ -1,5 +1,5 @@
 -- What is claimed: the parser and the form agree on every string, and no string says two things.
-use Rattle.std.specs.Prelude.{ℕ, ◌≤◌, ◌<◌, ◌≡◌, true, List, ◌∷◌, ◌≢◌, ◌↔◌, ℤ}
+use Rattle.std.specs.Prelude.{ℕ, ◌≤◌, ◌<◌, ◌≡◌, true, List, ◌∷◌, ◌≢◌, ◌↔◌, ℤ, None, Some}
 use Rattle.std.proofs.Math.Option.{none, some}
 use Rattle.std.specs.Int.Signed.{le_z}
 use Rattle.exact.specs.Meaning.{IsHeld}
@@ -14,7 +14,6 @@ use Rattle.command.specs.Parse.{body, parse}
 use Rattle.command.specs.Addressed.{addressed}
 use Rattle.command.specs.declared.Asked.{Asked}
 use Rattle.command.specs.declared.Asked.TheVariants.{Read, Print, Reset, Write, Status, BadForm}
-use Rattle.command.specs.declared.Parsed.TheVariants.{NoNode, To}
 use Rattle.form.specs.Grammar.{BeginsN, BeginsDigit, Numeral, Letter, Body, For, Says, NoDigit}
 use Rattle.form.specs.Change.{change, Change}
 
@@ -33,11 +32,11 @@ Permitted BadForm = Unit
 
 pub record Understood : Type 0 where
   -- the parser finds what is asked, and of which node, exactly where the form says so
-  pub asked : (s : List ℕ) (n : ℕ) (a : Asked) → Says s n a ↔ ((parse s ≡ To n a) × (a ≢ BadForm))
+  pub asked : (s : List ℕ) (n : ℕ) (a : Asked) → Says s n a ↔ ((parse s ≡ Some (n, a)) × (a ≢ BadForm))
   -- and bad form for a node exactly where the string is for that node and asks nothing of it
-  pub bad_form : (s : List ℕ) (n : ℕ) → (parse s ≡ To n BadForm) ↔ (For s n × Silent s n)
+  pub bad_form : (s : List ℕ) (n : ℕ) → (parse s ≡ Some (n, BadForm)) ↔ (For s n × Silent s n)
   -- and no node exactly where N has no digit, which is where the string is for no node at all
-  pub no_node : (s : List ℕ) → (parse s ≡ NoNode) ↔ NoDigit s
+  pub no_node : (s : List ℕ) → (parse s ≡ None) ↔ NoDigit s
   pub nobody : (s : List ℕ) → NoDigit s ↔ ((n : ℕ) → For s n → ⊥)
   -- a string is for one node at most, and says one thing at most
   pub one_node : (s : List ℕ) (m n : ℕ) → For s m → For s n → m ≡ n
@@ -56,4 +55,4 @@ pub record Understood : Type 0 where
   pub held_alike : (r c : ℕ) (l : Limits) (z y : ℤ) (s t : List ℕ) → Letter r c → (entry r).written ≡ Limited l → IsHeld l.low l.high z y
       → Numeral z s → Numeral y t → body (byte "V" ∷ c ∷ s) ≡ body (byte "V" ∷ c ∷ t)
   -- whatever is found is within what its type may hold
-  pub permitted : (s : List ℕ) (n : ℕ) (a : Asked) → parse s ≡ To n a → (n ≤ 99) × Permitted a
+  pub permitted : (s : List ℕ) (n : ℕ) (a : Asked) → parse s ≡ Some (n, a) → (n ≤ 99) × Permitted a

@@ -1,26 +1,14 @@
 -- Laws of texts that are written over the front of a buffer, over its tail, and one after another. Assumes nothing.
 use mathlib.Core.Path.{◌≡◌, refl, sym, ap, ◌∙◌}
-use mathlib.Core.Bool.{true, false}
+use mathlib.Core.Bool.{Bool, true, false, cond}
+use Rattle.std.specs.Prelude.{Option, None, Some}
 use mathlib.Core.List.{List, [], ◌++◌, append-nil, append_assoc}
-use Prim.Native.Nat.{ℕ, suc, ◌+◌, ◌-◌, ◌≤◌, ◌<◌}
+use Prim.Native.Nat.{ℕ, ◌+◌, ◌-◌, ◌≤◌}
 use native.Mathlib.Nat.{le_refl, zero-add}
-use native.Mathlib.Numerals.{add-one}
 use native.Mathlib.Omega.{arith}
-use borrow.Author.Tests.{leb-true}
-use lib.Dec.{leb}
-use lib.ListN.{length, take, drop, set, get_or, length-append, length-drop, drop_of_length-le, take-append-drop}
-use lib.Seq.{take_at, drop_at, take_all, take-suc, drop-drop, drop-cons, set_at, append_snoc, length-take-le}
-use Rattle.exact.proofs.Z.{both}
+use lib.ListN.{length, take, drop, length-append, length-drop, drop_of_length-le, take-append-drop}
+use lib.Seq.{take_at, drop_at, take_all, drop-drop, length-take-le}
 use Rattle.line.specs.Buffer.{over, laid, room, answer, after}
-use Rattle.line.specs.declared.Written.TheVariants.{Bytes, NoRoom}
-
--- a copy of a text over the front of d, one byte further
-pub copy_more : (t d : List ℕ) (i : ℕ) → i < length t → i < length d
-    → set (take i t ++ drop i d) i (get_or t i 0) ≡ take (i + 1) t ++ drop (i + 1) d
-copy_more t d i h k =
-    let n : length (take i t) ≡ i = length-take-le i t (omega arith) in
-    rw (add-one, drop-cons d i 0, set_at (take i t) (get_or d i 0) (drop (suc i) d) (get_or t i 0) i n, take-suc t i 0)
-    (sym (append_snoc (take i t) (get_or t i 0) (drop (suc i) d)))
 
 -- a buffer keeps its length
 pub over_length : (d t : List ℕ) → length t ≤ length d → length (over d t) ≡ length d
@@ -74,11 +62,6 @@ pub then_back : (d t u b ys : List ℕ) (q : ℕ) → b ≡ over d t → length 
     → take q b ++ (ys ++ drop (length b - q) (drop q b)) ≡ over d (t ++ u)
 then_back d t u b ys q f e h y = tail_back b u ys q y ∙ rw f (over_then d t u q e h)
 
--- ---- room
-
-pub roomy : (size p n : ℕ) → room size p n ≡ true → (p ≤ size) × (n ≤ size - p)
-roomy size p n e = let b = both (leb p size) (leb n (size - p)) e in (leb-true p size b.0, leb-true n (size - p) b.1)
-
 -- ---- texts one after another, each from the place behind the one before it
 
 -- b is d with a text from p on, and q is the place behind it
@@ -100,17 +83,24 @@ put_next d t u b c p q r a h e f = record {
   bytes = f ∙ rw a.bytes (laid_then d t u p q (sym a.next) (omega (arith, a.next, a.room)));
 }
 
--- what has room has room for its front
-pub front_room : (t u : List ℕ) (p n : ℕ) → p + length (t ++ u) ≤ n → p + length t ≤ n
-front_room t u p n h = omega (arith, length-append t u)
+-- a whole reply of so many bytes, by what became of it with room and without
+pub whole : (d reply b : List ℕ) (p n : ℕ) (r : Option ℕ) → n ≡ length reply → r ≡ cond (room (length d) p n) (Some n) None
+    → (room (length d) p n ≡ true → b ≡ take p d ++ over (drop p d) reply) → (room (length d) p n ≡ false → b ≡ d)
+    → (r ≡ answer d p reply) × (b ≡ after d p reply)
+unfolding answer after laid
+whole d reply b p n r e v w l = rw (v, e) (refl, by (room (length d) p (length reply)) (rw e at w) (rw e at l))
+  where
+    by : (t : Bool) → (t ≡ true → b ≡ take p d ++ over (drop p d) reply) → (t ≡ false → b ≡ d) → b ≡ cond t (take p d ++ over (drop p d) reply) d
+    by true f g = f refl
+    by false f g = g refl
 
 -- a whole reply that had room, and one that had none: the answer and the buffer
 pub wrote : (d reply ys : List ℕ) (p n : ℕ) → n ≡ length reply → room (length d) p n ≡ true → ys ≡ over (take (length d - p) (drop p d)) reply
-    → (Bytes n ≡ answer d p reply) × (take p d ++ (ys ++ drop (length d - p) (drop p d)) ≡ after d p reply)
+    → (Some n ≡ answer d p reply) × (take p d ++ (ys ++ drop (length d - p) (drop p d)) ≡ after d p reply)
 unfolding answer after
 wrote d reply ys p n e r y = let t = rw e at r in (rw (t, e), rw t (tail_back d reply ys p y))
 
 pub refused : (d reply : List ℕ) (p n : ℕ) → n ≡ length reply → room (length d) p n ≡ false
-    → (NoRoom ≡ answer d p reply) × (d ≡ after d p reply)
+    → (None ≡ answer d p reply) × (d ≡ after d p reply)
 unfolding answer after
 refused d reply p n e r = let t = rw e at r in (rw t, rw t)

@@ -1,7 +1,5 @@
 -- Where a reply stands in the buffer that was lent.
-use Rattle.std.specs.Prelude.{ℕ, ◌-◌, Bool, cond, ◌&&◌, List, ◌++◌, leb, length, take, drop}
-use Rattle.line.specs.declared.Written.{Written}
-use Rattle.line.specs.declared.Written.TheVariants.{Bytes, NoRoom}
+use Rattle.std.specs.Prelude.{ℕ, ◌-◌, Bool, cond, ◌&&◌, List, ◌++◌, Option, None, Some, leb, length, take, drop}
 
 -- a text over the front of d
 unfoldable pub over : List ℕ → List ℕ → List ℕ
@@ -20,5 +18,5 @@ unfoldable pub after : List ℕ → ℕ → List ℕ → List ℕ
 after d place reply = cond (room (length d) place (length reply)) (laid d place reply) d
 
 -- the answer: how many bytes were written, or that there was no room
-unfoldable pub answer : List ℕ → ℕ → List ℕ → Written
-answer d place reply = cond (room (length d) place (length reply)) (Bytes (length reply)) NoRoom
+unfoldable pub answer : List ℕ → ℕ → List ℕ → Option ℕ
+answer d place reply = cond (room (length d) place (length reply)) (Some (length reply)) None

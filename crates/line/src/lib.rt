@@ -1,7 +1,8 @@
 // Reply lines, written into the buffer that the caller lends.
 #![tactic(auto)]
 
-ghost use Rattle.std.specs.Prelude.{◌≡◌, ◌≤◌, ◌<◌, length};
+ghost use Rattle.std.specs.Prelude.{◌≡◌, ◌≤◌, ◌<◌, ℕ, List, ◌++◌, Some, None, true, false, cond, length, take, drop};
+ghost use Rattle.std.specs.Fn.{FnOnceReturnsAtMut};
 ghost use Rattle.register.specs.Registers.{count};
 ghost use Rattle.field.specs.Field.{field, Showable};
 ghost use Rattle.line.specs.Buffer.{over, room, after, answer};
@@ -16,23 +17,12 @@ pub struct Style {
     pub abbreviated: bool,
 }
 
-// What became of a reply: so many bytes of it were written, or it had no room and none was.
-#[derive(Clone, Copy)]
-pub enum Written {
-    Bytes(usize),
-    NoRoom,
-}
-
 // Writes a text over the front of a buffer.
 pub fn put_text(buf: &mut [u8], text: &[u8])
     requires { length text.now ≤ length buf.old }
     ensures { buf.new ≡ over buf.old text.now }
 {
-    let mut i = 0;
-    while i < text.len() {
-        buf[i] = text[i];
-        i += 1;
-    }
+    buf[..text.len()].copy_from_slice(text);
 }
 
 // The data bytes, built in their place.
@@ -40,7 +30,7 @@ fn put_field(buf: &mut [u8], places: usize, shown: Reading)
     requires { Showable places shown × (12 ≤ length buf.old) }
     ensures { buf.new ≡ over buf.old (field places shown) }
 {
-    field::fill(&mut buf[0..12], places, shown);
+    field::fill(&mut buf[..12], places, shown);
 }
 
 // Data, CR, LF.
@@ -69,12 +59,9 @@ fn put_head(buf: &mut [u8], node: u8, register: usize)
     requires { (node ≤ 99) × (register < count) × (6 ≤ length buf.old) }
     ensures { buf.new ≡ over buf.old (head node register) }
 {
-    let name = node_text(node);
-    let entry = register::register_at(register);
-    let mnemonic = entry.mnemonic;
-    put_text(buf, &name);
+    put_text(buf, &node_text(node));
     put_text(&mut buf[2..], b" ");
-    put_text(&mut buf[3..], &mnemonic);
+    put_text(&mut buf[3..], &register::register_at(register).mnemonic);
 }
 
 // How long a line is.
@@ -101,11 +88,27 @@ pub fn put_line(buf: &mut [u8], style: Style, register: usize, places: usize, sh
 pub fn has_room(size: usize, place: usize, bytes: usize) -> bool
     ensures { result ≡ room size place bytes }
 {
-    if place <= size {
-        bytes <= size - place
-    } else {
-        false
+    place <= size && bytes <= size - place
+}
+
+// A reply of so many bytes, which `put` writes over the front of a tail, as a whole from a place on. The answer is how many bytes were
+// written, or None: there was no room for it, and nothing was.
+pub fn write_whole<F: FnOnce(&mut [u8])>(
+    buf: &mut [u8],
+    place: usize,
+    bytes: usize,
+    put: F,
+) -> Option<usize>
+    requires { (tail : _) → bytes ≤ length tail.now → F.pre put tail }
+    ensures value { result ≡ cond (room (length buf.old) place bytes) (Some bytes) None }
+    ensures written { room (length buf.old) place bytes ≡ true → (tail : List ℕ) × FnOnceReturnsAtMut F.FnOnce put (drop place buf.old) tt tail × (buf.new ≡ take place buf.old ++ tail) }
+    ensures left { room (length buf.old) place bytes ≡ false → buf.new ≡ buf.old }
+{
+    if has_room(buf.len(), place, bytes) {
+        put(&mut buf[place..]);
+        return Some(bytes);
     }
+    None
 }
 
 // One line as a whole reply, from a place on.
@@ -116,14 +119,12 @@ pub fn write_line(
     register: usize,
     places: usize,
     shown: Reading,
-) -> Written
+) -> Option<usize>
     requires { Writable style register places shown }
     ensures { (result ≡ answer buf.old place (line style register places shown)) × (buf.new ≡ after buf.old place (line style register places shown)) }
 {
     let bytes = line_length(style);
-    if has_room(buf.len(), place, bytes) {
-        put_line(&mut buf[place..], style, register, places, shown);
-        return Written::Bytes(bytes);
-    }
-    Written::NoRoom
+    write_whole(buf, place, bytes, |tail| {
+        put_line(tail, style, register, places, shown)
+    })
 }

@@ -12,8 +12,7 @@ use lib.Seq.{drop_at}
 use Rattle.register.specs.Bytes.{byte}
 use Rattle.numeral.specs.Number.{is_digit, figures, keep, digits, filled, onward, value, last, amount}
 use Rattle.register.proofs.Ranges.{range}
-use Rattle.numeral.specs.declared.Amount.{Amount}
-use Rattle.numeral.specs.declared.Amount.TheVariants.{Of, NoAmount}
+use Rattle.std.specs.Prelude.{Option, None, Some}
 
 -- digits: each at most 9
 pub data Tens : List ℕ → Type 0 where
@@ -98,8 +97,8 @@ tens [] = none
 tens (b ∷ s) = tens_keep (is_digit b) b refl (tens s)
 
 -- what the rest of a number makes of n, read so far, and of whether a digit was seen
-unfoldable pub left : ℕ → Bool → List ℕ → Amount
-left n seen s = cond (figures s && (seen || filled (digits s))) (Of (onward n (digits s) % 100000)) NoAmount
+unfoldable pub left : ℕ → Bool → List ℕ → Option ℕ
+left n seen s = cond (figures s && (seen || filled (digits s))) (Some (onward n (digits s) % 100000)) None
 
 pub left_start : (s : List ℕ) → amount s ≡ left 0 false s
 unfolding amount left
@@ -117,23 +116,23 @@ pub left_point : (n : ℕ) (seen : Bool) (b : ℕ) (s : List ℕ) → b ≡ byte
 unfolding left
 left_point n seen b s e = rw e
 
-pub left_other : (n : ℕ) (seen : Bool) (b : ℕ) (s : List ℕ) → is_digit b ≡ false → (b ≡ byte "." → ⊥) → left n seen (b ∷ s) ≡ NoAmount
+pub left_other : (n : ℕ) (seen : Bool) (b : ℕ) (s : List ℕ) → is_digit b ≡ false → (b ≡ byte "." → ⊥) → left n seen (b ∷ s) ≡ None
 unfolding left
 left_other n seen b s e h = rw (e, ne_eqb b (byte ".") h)
 
-pub left_end : (n : ℕ) (seen : Bool) → n < 100000 → left n seen [] ≡ cond seen (Of n) NoAmount
+pub left_end : (n : ℕ) (seen : Bool) → n < 100000 → left n seen [] ≡ cond seen (Some n) None
 unfolding left
 left_end n true h = rw (mod-eq_of_lt h)
 left_end n false h = refl
 
 -- an amount is below 100,000
-small_by : (s : List ℕ) (n : ℕ) (t : Bool) → cond t (Of (value (last 5 (digits s)))) NoAmount ≡ Of n → n < 100000
+small_by : (s : List ℕ) (n : ℕ) (t : Bool) → cond t (Some (value (last 5 (digits s)))) None ≡ Some n → n < 100000
 small_by s n true e =
     let h : value (last 5 (digits s)) ≡ n = cc in
     omega (arith, last_five (tens s), mod-lt (value (digits s)) {m = 100000} (omega arith))
 small_by s n false e = let z : ◌≡◌ {A = ℕ} 0 1 = cc in absurd (omega arith)
 
-pub small : (s : List ℕ) (n : ℕ) → amount s ≡ Of n → n < 100000
+pub small : (s : List ℕ) (n : ℕ) → amount s ≡ Some n → n < 100000
 unfolding amount
 small s n e = small_by s n (figures s && filled (digits s)) e
 

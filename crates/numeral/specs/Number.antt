@@ -1,11 +1,9 @@
 -- A V number: an optional leading minus and then digits and points, at least one digit; points are ignored and the last five digits count.
 -- Then the limits of the register hold, and the answer says whether they had to.
-use Rattle.std.specs.Prelude.{ℕ, ◌+◌, ◌-◌, ◌*◌, Bool, true, false, cond, ◌&&◌, ◌||◌, List, [], ◌∷◌, eqb, ℤ, pos, neg_ℤ, length, drop}
+use Rattle.std.specs.Prelude.{ℕ, ◌+◌, ◌-◌, ◌*◌, Bool, true, false, cond, ◌&&◌, ◌||◌, List, [], ◌∷◌, Option, None, Some, eqb, ℤ, pos, neg_ℤ, length, drop}
 use Rattle.exact.specs.Sign.{held_to, within as within_z}
 use Rattle.register.specs.Bytes.{byte, within}
 use Rattle.register.specs.declared.Limits.{Limits}
-use Rattle.numeral.specs.declared.Amount.{Amount}
-use Rattle.numeral.specs.declared.Amount.TheVariants.{Of, NoAmount}
 use Rattle.numeral.specs.declared.Number.{Number}
 use Rattle.numeral.specs.declared.Number.TheVariants.{Is, Held, NoNumber}
 
@@ -46,20 +44,20 @@ value ds = onward 0 ds
 abbrev pub last : ℕ → List ℕ → List ℕ
 last k ds = drop (length ds - k) ds
 
-unfoldable pub amount : List ℕ → Amount
-amount s = cond (figures s && filled (digits s)) (Of (value (last 5 (digits s)))) NoAmount
+unfoldable pub amount : List ℕ → Option ℕ
+amount s = cond (figures s && filled (digits s)) (Some (value (last 5 (digits s)))) None
 
 -- z where it lies within the limits, else the limit nearest to it
 abbrev pub held_by : Limits → ℤ → Number
 held_by l z = cond (within_z l.low l.high z) (Is z) (Held (held_to l.low l.high z))
 
-abbrev pub plus : Limits → Amount → Number
-plus l (Of n) = held_by l (pos n)
-plus l NoAmount = NoNumber
+abbrev pub plus : Limits → Option ℕ → Number
+plus l (Some n) = held_by l (pos n)
+plus l None = NoNumber
 
-abbrev pub minus : Limits → Amount → Number
-minus l (Of n) = held_by l (neg_ℤ (pos n))
-minus l NoAmount = NoNumber
+abbrev pub minus : Limits → Option ℕ → Number
+minus l (Some n) = held_by l (neg_ℤ (pos n))
+minus l None = NoNumber
 
 unfoldable pub number : Limits → List ℕ → Number
 number l [] = NoNumber

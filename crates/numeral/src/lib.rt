@@ -1,19 +1,13 @@
 // A V number, read from its bytes and held to the limits of the register that it is for.
 #![tactic(auto)]
 
-ghost use Rattle.std.specs.Prelude.{◌≡◌, ◌<◌, pos, neg_ℤ};
-ghost use Rattle.numeral.specs.Number.{amount, held_by, number};
+ghost use Rattle.std.specs.Prelude.{◌≡◌, cond};
+ghost use Rattle.numeral.specs.Number.{amount, held_by, plus, minus, number};
 
 use register::Limits;
 
-// The digits of a V number: its last five, without a sign.
-#[derive(Clone, Copy)]
-pub enum Amount {
-    Of(u32),
-    NoAmount,
-}
-
-// What a V number comes to: the number itself, or the limit that it was held to.
+// What a V number comes to: the number itself, the limit that it was held to, or that there is none. These are three answers of one
+// kind, which the laws tell apart; an Option around the first two would only nest them.
 #[derive(Clone, Copy)]
 pub enum Number {
     Is(i32),
@@ -21,50 +15,23 @@ pub enum Number {
     NoNumber,
 }
 
-// Digits and points, at least one digit; the last five digits count.
-fn amount_of(s: &[u8]) -> Amount
+// What the digits of a V number say, without a sign: digits and points, at least one digit, of which the last five count. None for anything else.
+fn amount_of(s: &[u8]) -> Option<u32>
     ensures { result ≡ amount s.now }
 {
     let mut n: u32 = 0;
     let mut seen = false;
-    let mut i = 0;
-    while i < s.len() {
-        let b = s[i];
-        match b {
+    for b in s {
+        match *b {
             b'0'..=b'9' => {
-                n = (10 * n + digit(b - b'0')) % 100000;
+                n = (10 * n + u32::from(*b - b'0')) % 100000;
                 seen = true;
             }
             b'.' => {}
-            _ => return Amount::NoAmount,
+            _ => return None,
         }
-        i += 1;
     }
-    if seen {
-        Amount::Of(n)
-    } else {
-        Amount::NoAmount
-    }
-}
-
-fn digit(b: u8) -> u32
-    ensures { result ≡ b }
-{
-    b as u32
-}
-
-fn plus(n: u32) -> i32
-    requires { n < 100000 }
-    ensures { result ≡ pos n }
-{
-    n as i32
-}
-
-fn minus(n: u32) -> i32
-    requires { n < 100000 }
-    ensures { result ≡ neg_ℤ (pos n) }
-{
-    0 - plus(n)
+    if seen { Some(n) } else { None }
 }
 
 // A number past a limit is held to that limit.
@@ -80,28 +47,26 @@ fn held_to(limits: Limits, z: i32) -> Number
     Number::Is(z)
 }
 
+// The number of some digits, below zero where a minus stands before them, held to the limits.
+fn signed(limits: Limits, is_minus: bool, digits: &[u8]) -> Number
+    ensures { result ≡ cond is_minus (minus limits (amount digits.now)) (plus limits (amount digits.now)) }
+{
+    match amount_of(digits) {
+        Some(n) => {
+            let size = n as i32;
+            let z = if is_minus { -size } else { size };
+            held_to(limits, z)
+        }
+        None => Number::NoNumber,
+    }
+}
+
 // A V number: an optional leading minus, and its digits. The last five are taken first, and then the limits hold.
 pub fn number_of(limits: Limits, s: &[u8]) -> Number
     ensures { result ≡ number limits s.now }
 {
-    if s.len() == 0 {
-        return Number::NoNumber;
-    }
-    let b = s[0];
-    match b {
-        b'-' => {
-            let a = amount_of(&s[1..]);
-            match a {
-                Amount::Of(n) => held_to(limits, minus(n)),
-                Amount::NoAmount => Number::NoNumber,
-            }
-        }
-        _ => {
-            let a = amount_of(s);
-            match a {
-                Amount::Of(n) => held_to(limits, plus(n)),
-                Amount::NoAmount => Number::NoNumber,
-            }
-        }
+    match s {
+        [b'-', digits @ ..] => signed(limits, true, digits),
+        _ => signed(limits, false, s),
     }
 }

@@ -53,25 +53,21 @@ pub fn is_over(length: usize) -> bool
 }
 
 // A byte that is part of a string.
-pub fn stored(r: Receiver, b: u8) -> Receiver
+pub fn stored(mut r: Receiver, b: u8) -> Receiver
     ensures { result ≡ store r b }
 {
-    let mut n = r;
-    let at = r.length;
-    if at < LIMIT {
-        n.bytes[at] = b;
-        n.length = at + 1;
+    if r.length < LIMIT {
+        r.bytes[r.length] = b;
+        r.length += 1;
     } else {
-        n.length = LIMIT + 1;
+        r.length = LIMIT + 1;
     }
-    n
+    r
 }
 
 // Nothing is held any more: the next byte begins a string.
 pub fn emptied(r: Receiver) -> Receiver
     ensures { result ≡ emptied r }
 {
-    let mut n = r;
-    n.length = 0;
-    n
+    Receiver { length: 0, ..r }
 }

@@ -2,7 +2,7 @@
 // of them; and beside them what a line of each can show.
 #![tactic(auto)]
 
-ghost use Rattle.std.specs.Prelude.{◌≡◌};
+ghost use Rattle.std.specs.Prelude.{◌≡◌, get_or};
 ghost use Rattle.register.specs.Registers.{register_of, entry, index};
 ghost use Rattle.register.specs.Shows.{shows_at};
 
@@ -21,8 +21,8 @@ pub enum Writes {
     Byte,
 }
 
-// A register: its letter, its mnemonic, and whether T reads it and R resets it. What V writes is a column of its own, since the table is
-// laid out anew wherever it is asked, and a reply line asks for a mnemonic alone.
+// A register: its letter, its mnemonic, and whether T reads it and R resets it. What V writes is a column of its own, since a reply line
+// asks for a mnemonic alone, and then copies no limits.
 #[derive(Clone, Copy)]
 pub struct Register {
     pub letter: u8,
@@ -222,58 +222,59 @@ const SHOWN: [Shows; READ] = [
     },
 ];
 
+// The entry at a place of a table; past its end what is said to stand there. The table is lent, and so it stands in memory once; a constant
+// that is indexed in its place is laid out anew at every look, which costs 11 instructions more for a mnemonic.
+fn entry_or<T: Copy>(table: &[T], index: usize, past: T) -> T
+    ensures { result ≡ get_or table.now index past }
+{
+    table.get(index).copied().unwrap_or(past)
+}
+
+// What stands past the end of the table: a register that no command takes.
+const NO_REGISTER: Register = Register {
+    letter: 0,
+    mnemonic: [0, 0, 0],
+    read: false,
+    reset: false,
+};
+
+// What is shown past the ten: no number lies within these limits.
+const NOTHING: Shows = Shows {
+    numbers: Limits { low: 1, high: 0 },
+    beyond: false,
+    none: false,
+    places: false,
+};
+
 // The register at a place of the table; past its end one that no command takes.
 pub fn register_at(index: usize) -> Register
     ensures { result ≡ register_of (entry index) }
 {
-    if index < COUNT {
-        return REGISTERS[index];
-    }
-    Register {
-        letter: 0,
-        mnemonic: [0, 0, 0],
-        read: false,
-        reset: false,
-    }
+    entry_or(&REGISTERS, index, NO_REGISTER)
 }
 
 // What V writes to the register at a place of the table; past its end nothing.
 pub fn written_at(index: usize) -> Writes
     ensures { result ≡ (entry index).written }
 {
-    if COUNT <= index {
-        return Writes::Nothing;
-    }
-    WRITTEN[index]
+    entry_or(&WRITTEN, index, Writes::Nothing)
 }
 
 // What a line of the register at a place of the table can show; past the ten nothing.
+#[tactic(auto, unfolding(crate::specs::Shows::shows_at))]
 pub fn shows_at(index: usize) -> Shows
     ensures { result ≡ shows_at index }
 {
-    if index < READ {
-        return SHOWN[index];
-    }
-    Shows {
-        numbers: Limits { low: 1, high: 0 },
-        beyond: false,
-        none: false,
-        places: false,
-    }
+    entry_or(&SHOWN, index, NOTHING)
 }
 
-// The place of a letter in the table, and past its end for any other byte.
+// The place of a letter in the table, and past its end for any other byte. The table says of that place that no command takes it, so nobody
+// has to ask whether there is one.
 pub fn index_of(letter: u8) -> usize
     ensures { result ≡ index letter }
 {
     match letter {
-        b'A'..=b'J' => wide(letter - b'A'),
+        b'A'..=b'J' => usize::from(letter - b'A'),
         _ => COUNT,
     }
-}
-
-fn wide(b: u8) -> usize
-    ensures { result ≡ b }
-{
-    b as usize
 }

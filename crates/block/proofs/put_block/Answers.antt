@@ -1,89 +1,90 @@
--- `block::put_block` meets its contract: the readings' lines, the setpoints' and the end, each from the place behind the one before it. Assumes nothing.
-use native.Mathlib.Omega.{arith}
-use native.Mathlib.Nat.{zero-add}
-use mathlib.Core.Path.{◌≡◌, refl, sym, ap, ◌∙◌}
-use mathlib.Core.List.{List, ◌++◌}
-use Prim.Native.Nat.{ℕ, ◌+◌, ◌≤◌}
-use lib.ListN.{length, take, drop}
-use Rattle.block.specs.Block.{order, chosen, chosen_lines, some, block_end, block}
-use Rattle.block.specs.Values.{value_line}
-use Rattle.line.specs.Buffer.{over}
-use Rattle.line.proofs.Over.{Upto, room_next, put_next, front_room, laid_front}
-use Rattle.block.proofs.Blocks.{lines_append}
+-- `block::put_block` meets its contract. The invariant: the chosen lines up to the register stand at the front. Assumes nothing.
+use Rattle.std.proofs.Common.{◌≡◌, refl, sym, ap, ◌∙◌, true, false, ℕ, ◌<◌, length, get_or, append-nil, arith}
+use Rattle.line.proofs.Over.{room_next, put_next, tail_length, tail_back, laid_front, laid_nil}
+use Rattle.block.specs.Block.{wants, option_at, order, chosen, chosen_lines, some, block_end, block}
+use Rattle.block.specs.Values.{value_at, places_of, value_line}
+use Rattle.block.proofs.Blocks.{ordered, at_its_place, one_more, fits_one_more, value_writable, value_length}
 use Rattle.block.proofs.put_block.Goals as goal
-use Rattle.block.proofs.put_block.Lts as lts
-use Rattle.block.proofs.put_block.Reads as reads
-use Rattle.block.proofs.put_block.Tie as tie
+use Rattle.block.proofs.put_block.Goals.{then-is_chosen, else-is_chosen}
 
-abbrev After-put_setpoints-at : Type 0
-After-put_setpoints-at = lts.After-put_setpoints tie.the-claims reads.Pre reads.Post
+pub loop-register-init : goal.loop-register-init
+unfolding chosen_lines
+loop-register-init c = record { room = omega arith; next = refl; bytes = sym (laid_nil c.args.buf.now 0) }
 
-abbrev After-put_readings-at : Type 0
-After-put_readings-at = lts.After-put_readings tie.the-claims reads.Pre reads.Post
+pub put_line-requires : goal.put_line-requires
+unfolding value_line
+put_line-requires c =
+    let a = c.args in
+    let v = a.values.now in
+    let l = c.loop-register in
+    let i = l.register-index in
+    let h : i < 8 = omega arith in
+    let e : get_or ordered i 0 ≡ i = at_its_place i h in
+    let places : c.places_of-places.result ≡ places_of v i = c.places_of-places.ensures ∙ ap (places_of v) e in
+    let shown : c.shown-shown.result ≡ value_at v i = c.shown-shown.ensures ∙ ap (value_at v) e in
+    let wanted : wants a.print (option_at i) ≡ true = sym (ap (λ (r : ℕ). wants a.print (option_at r)) e) ∙ sym c.is_chosen.ensures ∙ c.if-is_chosen.true in
+    let room =
+    rw wanted at
+    (room_next a.buf.now _ (chosen (wants a.print (option_at i)) (value_line a.style v i)) _ 0 _ l.invariant
+    (fits_one_more a.print (value_line a.style v) i (length a.buf.now) h c.requires.1)) in
+    rw (e, places, shown, tail_length l.buf l.at)
+    (value_writable a.style v c.requires.0 i (omega arith), omega (arith, room, value_length a.style v c.requires.0 i (omega arith)))
 
-abbrev Start : Type 0
-Start = lts.Start tie.the-claims reads.Pre reads.Post
+pub loop-register-preserved : goal.loop-register-preserved
+unfolding value_line
+loop-register-preserved c =
+    let a = c.args in
+    let v = a.values.now in
+    let l = c.loop-register in
+    let i = l.register-index in
+    let h : i < 8 = omega arith in
+    let e : get_or ordered i 0 ≡ i = at_its_place i h in
+    let asked = sym (ap (λ (r : ℕ). wants a.print (option_at r)) e) ∙ sym c.is_chosen.ensures in
+    let u = chosen (wants a.print (option_at i)) (value_line a.style v i) in
+    let fits = fits_one_more a.print (value_line a.style v) i (length a.buf.now) h c.requires.1 in
+    rw (one_more a.print (value_line a.style v) i h)
+    (elim c.if-is_chosen.branch [
+      | then-is_chosen w ↦
+          let wanted : wants a.print (option_at i) ≡ true = asked ∙ w.if-is_chosen.true in
+          let places : w.places_of-places.result ≡ places_of v i = w.places_of-places.ensures ∙ ap (places_of v) e in
+          let shown : w.shown-shown.result ≡ value_at v i = w.shown-shown.ensures ∙ ap (value_at v) e in
+          put_next a.buf.now _ u l.buf _ 0 l.at _ l.invariant fits
+          (w.at-is ∙ rw (wanted, w.line_length-at.ensures, value_length a.style v c.requires.0 i (omega arith)))
+          (w.buf-is ∙ rw wanted (tail_back l.buf (value_line a.style v i) _ l.at (w.put_line.ensures ∙ rw (e, places, shown))))
+      | else-is_chosen w ↦
+          let wanted : wants a.print (option_at i) ≡ false = asked ∙ w.if-is_chosen.false in
+          rw (wanted, append-nil, w.at-is, w.buf-is) l.invariant
+    ])
 
--- the three parts
-abbrev first : Start → List ℕ
-first s = chosen_lines s.args.print (value_line s.args.style s.args.values) (take 4 order)
-
-abbrev second : Start → List ℕ
-second s = chosen_lines s.args.print (value_line s.args.style s.args.values) (drop 4 order)
-
-abbrev third : Start → List ℕ
-third s = chosen (some s.args.print order) block_end
-
-whole : (s : Start) → block s.args.print (value_line s.args.style s.args.values) ≡ first s ++ second s ++ third s
+pub put_text-requires : goal.put_text-requires
 unfolding block
-whole s = ap (λ (l : List ℕ). l ++ third s) (lines_append s.args.print (value_line s.args.style s.args.values) (take 4 order) (drop 4 order))
+put_text-requires c =
+    let a = c.args in
+    let l = c.loop-register in
+    let z : l.register-index ≡ 8 = omega arith in
+    let lines = rw z at l.invariant in
+    let wanted : some a.print order ≡ true = sym c.any.ensures ∙ c.if-any.true in
+    let room = rw wanted at (room_next a.buf.now _ (chosen (some a.print order) block_end) _ 0 _ lines (omega (arith, c.requires.1))) in
+    rw (tail_length l.buf l.at) (omega (arith, room))
 
--- there is room for all three, and so for the first two and for one
-room3 : (s : Start) → 0 + length (first s ++ second s ++ third s) ≤ length s.args.buf.now
-room3 s = omega (arith, ap length (whole s), s.requires.1)
+pub returns-then-any : goal.returns-then-any
+unfolding block
+returns-then-any c =
+    let a = c.args in
+    let l = c.loop-register in
+    let z : l.register-index ≡ 8 = omega arith in
+    let lines = rw z at l.invariant in
+    let wanted : some a.print order ≡ true = sym c.any.ensures ∙ c.if-any.true in
+    rw wanted
+    ((put_next a.buf.now _ block_end l.buf _ 0 l.at _ lines (omega (arith, rw wanted at c.requires.1)) refl (tail_back l.buf block_end _ l.at c.put_text.ensures)).bytes
+    ∙ laid_front a.buf.now _)
 
-room2 : (s : Start) → 0 + length (first s ++ second s) ≤ length s.args.buf.now
-room2 s = front_room (first s ++ second s) (third s) 0 _ (room3 s)
-
-room1 : (s : Start) → 0 + length (first s) ≤ length s.args.buf.now
-room1 s = front_room (first s) (second s) 0 _ (room2 s)
-
-pub put_readings-at-requires : goal.put_readings-at-requires
-put_readings-at-requires c =
-    let s = c in
-    (s.requires.0, omega (arith, room1 s.before.before))
-
-upto1 : (c : After-put_readings-at) → let s = c in Upto s.args.buf.now 0 (first s.before.before.before) c.put_readings-at.result c.put_readings-at.new.buf
-upto1 c = record {
-  room = room1 c.before.before.before;
-  next = c.put_readings-at.ensures.0 ∙ sym (zero-add _);
-  bytes = c.put_readings-at.ensures.1 ∙ sym (laid_front _ _);
-}
-
-pub put_setpoints-at-requires : goal.put_setpoints-at-requires
-put_setpoints-at-requires c =
-    let f = c in
-    let s = f in
-    (s.requires.0, room_next s.args.buf.now (first s.before.before.before.before.before.before) (second s.before.before.before.before.before.before) _ 0 _ (upto1 f.before.before.before) (room2 s.before.before.before.before.before.before))
-
-upto2 : (c : After-put_setpoints-at) →
-    let s = c in
-    Upto s.args.buf.now 0 (first s.before.before.before.before.before.before.before ++ second s.before.before.before.before.before.before.before) c.put_setpoints-at.result c.put_setpoints-at.new.buf
-upto2 c =
-    let f = c in
-    let s = f in
-    put_next s.args.buf.now (first s.before.before.before.before.before.before.before) (second s.before.before.before.before.before.before.before) _ _ 0 _ _ (upto1 f.before.before.before.before) (room2 s.before.before.before.before.before.before.before) c.put_setpoints-at.ensures.0 c.put_setpoints-at.ensures.1
-
-pub put_end-requires : goal.put_end-requires
-put_end-requires c =
-    let f = c in
-    let s = f in
-    rw c.any.ensures (room_next s.args.buf.now (first s.before.before.before.before.before.before.before.before.before.before.before ++ second s.before.before.before.before.before.before.before.before.before.before.before) (third s.before.before.before.before.before.before.before.before.before.before.before) _ 0 _ (upto2 f.before.before.before.before) (room3 s.before.before.before.before.before.before.before.before.before.before.before))
-
-pub returns : goal.returns
-returns c =
-    let e = c in
-    let f = e in
-    let s = f in
-    let b = rw e.any.ensures at e.put_end.ensures in
-    (put_next s.args.buf.now (first s.before.before.before.before.before.before.before.before.before.before.before.before.before.before.before ++ second s.before.before.before.before.before.before.before.before.before.before.before.before.before.before.before) (third s.before.before.before.before.before.before.before.before.before.before.before.before.before.before.before) _ _ 0 _ _ (upto2 f.before.before.before.before.before.before.before.before) (room3 s.before.before.before.before.before.before.before.before.before.before.before.before.before.before.before) refl b).bytes ∙ laid_front _ _ ∙ ap (over s.args.buf.now) (sym (whole s.before.before.before.before.before.before.before.before.before.before.before.before.before.before.before))
+pub returns-else-any : goal.returns-else-any
+unfolding block
+returns-else-any c =
+    let a = c.args in
+    let l = c.loop-register in
+    let z : l.register-index ≡ 8 = omega arith in
+    let lines = rw z at l.invariant in
+    let wanted : some a.print order ≡ false = sym c.any.ensures ∙ c.if-any.false in
+    rw (wanted, append-nil) (lines.bytes ∙ laid_front a.buf.now _)

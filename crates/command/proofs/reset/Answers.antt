@@ -1,15 +1,15 @@
 -- `command::reset` meets its contract: the list says whether R takes the register. Assumes nothing.
-use mathlib.Core.Path.{sym, ap, ◌∙◌}
+use Rattle.std.proofs.Common.{sym, ap, ◌∙◌}
 use Rattle.register.specs.declared.Register.{Register}
 use Rattle.command.specs.Parse.{resetting}
 use Rattle.command.proofs.reset.Goals as goal
 
-pub returns-then-e : goal.returns-then-e
+pub returns-then-register_at : goal.returns-then-register_at
 unfolding resetting
-returns-then-e c =
-    rw (← c.sole_register-i.ensures, sym (ap (λ (x : Register). x.reset) c.register_at-e.ensures) ∙ c.if-e.true)
+returns-then-register_at c =
+    rw (← c.sole_register-i.ensures, sym (ap (λ (x : Register). x.reset) c.register_at.ensures) ∙ c.if-register_at.true)
 
-pub returns-else-e : goal.returns-else-e
+pub returns-else-register_at : goal.returns-else-register_at
 unfolding resetting
-returns-else-e c =
-    rw (← c.sole_register-i.ensures, sym (ap (λ (x : Register). x.reset) c.register_at-e.ensures) ∙ c.if-e.false)
+returns-else-register_at c =
+    rw (← c.sole_register-i.ensures, sym (ap (λ (x : Register). x.reset) c.register_at.ensures) ∙ c.if-register_at.false)

@@ -1,10 +1,6 @@
 -- `command::status` meets its contract: a list of length one is its first byte, and its range is one test. Assumes nothing.
-use native.Mathlib.Omega.{arith}
-use mathlib.Core.Path.{◌≡◌, refl, sym, ap, ◌∙◌}
-use mathlib.Core.List.{List, [], ◌∷◌}
-use Prim.Native.Nat.{ℕ}
-use lib.ListN.{length, get_or}
-use borrow.Author.Tests.{le-leb, lt-leb}
+use Rattle.std.proofs.Common.{◌≡◌, refl, sym, ap, ◌∙◌, List, [], ◌∷◌, ℕ, ◌≤◌, ◌<◌, length, get_or, arith, rules}
+use borrow.Author.Tests.{le-leb, lt-leb, tests}
 use Rattle.command.specs.Parse.{status}
 use Rattle.command.specs.declared.Asked.TheVariants.{BadForm}
 use Rattle.numeral.proofs.Lists.{one}
@@ -16,17 +12,22 @@ other [] h = refl
 other (b ∷ []) h = absurd (h refl)
 other (b ∷ c ∷ s) h = refl
 
-pub returns-then-s-ne1 : goal.returns-then-s-ne1
-returns-then-s-ne1 c = sym (other c.args.s.now (λ e. omega arith))
-
 pub returns-in-0-to-127 : goal.returns-in-0-to-127
 unfolding status
 returns-in-0-to-127 c =
     let s = c.args.s.now in
-    sym (ap status (one s (omega arith)) ∙ rw (le-leb (get_or s 0 0) 127 (omega arith)))
+    let low : get_or s 0 0 ≤ 127 = search (rules, tests) in
+    sym (ap status (one s (omega (arith, c.in-0-to-127.len_at_least, c.in-0-to-127.len_below))) ∙ rw (le-leb (get_or s 0 0) 127 low))
 
 pub returns-in_default : goal.returns-in_default
+returns-in_default c = sym (other c.args.s.now (λ e. omega (arith, c.in_default.len_below)))
+
+pub returns-in_default-2 : goal.returns-in_default-2
 unfolding status
-returns-in_default c =
+returns-in_default-2 c =
     let s = c.args.s.now in
-    sym (ap status (one s (omega arith)) ∙ rw (lt-leb (get_or s 0 0) 127 (omega arith)))
+    let high : 127 < get_or s 0 0 = search (rules, tests) in
+    sym (ap status (one s (omega (arith, c.in_default.len_at_least, c.in_default.len_below))) ∙ rw (lt-leb (get_or s 0 0) 127 high))
+
+pub returns-in_default-3 : goal.returns-in_default-3
+returns-in_default-3 c = sym (other c.args.s.now (λ e. omega (arith, c.in_default.len_at_least)))

@@ -1,17 +1,14 @@
 -- `command::write` meets its contract: the list says what V writes to the register. Assumes nothing.
-use native.Mathlib.Omega.{arith}
-use mathlib.Core.Path.{sym, ◌∙◌}
+use Rattle.std.proofs.Common.{sym, ◌∙◌, arith}
 use Rattle.command.specs.Parse.{writing}
 use Rattle.numeral.proofs.Lists.{none, split}
 use Rattle.command.proofs.write.Goals as goal
 
-pub returns-then-s-eq0 : goal.returns-then-s-eq0
+pub returns-in_default : goal.returns-in_default
 unfolding writing
-returns-then-s-eq0 c = rw (none c.args.s.now (omega arith))
+returns-in_default c = rw (none c.args.s.now (omega (arith, c.in_default.len_below)))
 
-pub returns : goal.returns
+pub returns-in-len1-up : goal.returns-in-len1-up
 unfolding writing
-returns c =
-    let r = c in
-    let s = r.args.s.now in
-    c.data_of.ensures ∙ sym (split writing s (omega arith) ∙ rw (← r.index_of-i.ensures, ← r.written_at-written.ensures))
+returns-in-len1-up c =
+    c.data_of.ensures ∙ sym (split writing c.args.s.now (omega (arith, c.in-len1-up.len_at_least)) ∙ rw (← c.index_of-i.ensures, ← c.written_at.ensures))

@@ -27,7 +27,7 @@ loop-left-smaller c = omega arith
 pub loop-left-preserved : goal.loop-left-preserved
 loop-left-preserved c =
     let l = c.loop-left in
-    let t = whole_tens l.left c.loop-left-test.true l.invariant.2 in
+    let t = whole_tens l.left (omega arith) l.invariant.2 in
     let w = whole_some (l.left / 10) in
     let n = ap length t ∙ length-append (whole (l.left / 10)) (digit l.left ∷ []) in (
       simp length-set (omega arith),
@@ -40,16 +40,10 @@ loop-left-preserved c =
           ∙ agree_before l.buf _ l.i (l.i - 1) (omega arith) l.invariant.5,
     )
 
-pub overflow_sub-i-2 : goal.overflow_sub-i-2
-overflow_sub-i-2 c = omega (arith, whole_some c.loop-left.left)
-
-pub bounds-buf-i-2 : goal.bounds-buf-i-2
-bounds-buf-i-2 c = omega (arith, whole_some c.loop-left.left)
-
-pub returns : goal.returns
-returns c =
+pub returns-then-left-lt10 : goal.returns-then-left-lt10
+returns-then-left-lt10 c =
     let l = c.loop-left in
     let t = whole_one l.left (omega arith) in
-    rw c.last_digit-2.ensures
+    rw c.last_digit.ensures
     (first_put l.buf _ _ l.i _ (omega (arith, whole_some l.left)) l.invariant.0 l.invariant.1
     (l.invariant.4 ∙ ap (λ (p : List ℕ). p ++ drop l.i l.buf) t) l.invariant.5)

@@ -1,9 +1,5 @@
 -- `line::put_head` meets its contract: three texts, each written over the tail behind the one before it. Assumes nothing.
-use native.Mathlib.Omega.{arith}
-use mathlib.Core.Path.{◌≡◌, ap, ◌∙◌}
-use mathlib.Core.List.{◌++◌, ◌∷◌, []}
-use Prim.Native.Nat.{◌-◌}
-use lib.ListN.{length, take, drop, length-append}
+use Rattle.std.proofs.Common.{◌≡◌, ap, ◌∙◌, ◌++◌, ◌∷◌, [], ◌-◌, length, take, drop, length-append, arith}
 use Rattle.register.specs.Registers.{entry}
 use Rattle.register.proofs.Table.{ruled}
 use Rattle.line.specs.Buffer.{over}
@@ -11,43 +7,31 @@ use Rattle.line.specs.Line.{node_text, head}
 use Rattle.line.proofs.Over.{over_length, tail_length, then_back}
 use Rattle.line.proofs.Lines.{node_length}
 use Rattle.line.proofs.put_head.Goals as goal
-use Rattle.line.proofs.put_head.Lts as lts
-use Rattle.line.proofs.put_head.Reads as reads
-use Rattle.line.proofs.put_head.Tie as tie
-
-abbrev After-buf-2-1 : Type 0
-After-buf-2-1 = lts.After-buf2 tie.the-claims reads.Pre reads.Post
+use Rattle.line.proofs.put_head.Goals.{After-put_text-2}
 
 -- after the second text
-spaced : (c : After-buf-2-1) →
-    let s = c in
+spaced : (c : After-put_text-2) →
     let b = c.put_text.new.buf in
-    take 2 b ++ (c.put_text-2.new.buf ++ drop (length b - 2) (drop 2 b)) ≡ over s.args.buf.now (node_text s.args.node ++ (32 ∷ []))
+    take 2 b ++ (c.put_text-2.new.buf ++ drop (length b - 2) (drop 2 b)) ≡ over c.args.buf.now (node_text c.args.node ++ (32 ∷ []))
 spaced c =
-    let n = c in
-    let t = n in
-    let s = t in
-    then_back s.args.buf.now (node_text s.args.node) _ _ _ 2 (n.put_text.ensures ∙ ap (over s.args.buf.now) t.node_text-name.ensures)
-    (node_length s.args.node) (omega arith) c.put_text-2.ensures
+    let a = c.args in
+    then_back a.buf.now (node_text a.node) _ _ _ 2 (c.put_text.ensures ∙ ap (over a.buf.now) c.node_text.ensures)
+    (node_length a.node) (omega arith) c.put_text-2.ensures
 
 pub put_text-requires-3 : goal.put_text-requires-3
 put_text-requires-3 c =
-    let b = c in
-    let r = b in
-    let s = r in
-    let t = node_text s.args.node ++ (32 ∷ []) in
-    let n = length-append (node_text s.args.node) (32 ∷ []) in
-    let l = node_length s.args.node in
-    let o = over_length s.args.buf.now t (omega arith) in
-    rw (spaced b.before.before.before, tail_length (over s.args.buf.now t) 3, o, r.register_at-entry.ensures, (ruled s.args.register s.requires.1).mnemonic) (omega arith)
+    let a = c.args in
+    let t = node_text a.node ++ (32 ∷ []) in
+    let n = length-append (node_text a.node) (32 ∷ []) in
+    let l = node_length a.node in
+    let o = over_length a.buf.now t (omega arith) in
+    rw (spaced (goal.at.put_text-requires-3 c).After-put_text-2, tail_length (over a.buf.now t) 3, o, c.register_at.ensures, (ruled a.register c.requires.1).mnemonic) (omega arith)
 
 pub returns : goal.returns
 unfolding head
 returns c =
-    let b = c in
-    let r = b in
-    let s = r in
-    let t = node_text s.args.node ++ (32 ∷ []) in
-    then_back s.args.buf.now t (entry s.args.register).mnemonic _ _ 3 (spaced b.before.before.before.before.before.before.before)
-    (length-append (node_text s.args.node) (32 ∷ []) ∙ omega (arith, node_length s.args.node)) (omega arith)
-    (c.put_text-3.ensures ∙ rw r.register_at-entry.ensures)
+    let a = c.args in
+    let t = node_text a.node ++ (32 ∷ []) in
+    then_back a.buf.now t (entry a.register).mnemonic _ _ 3 (spaced (goal.at.returns c).After-put_text-2)
+    (length-append (node_text a.node) (32 ∷ []) ∙ omega (arith, node_length a.node)) (omega arith)
+    (c.put_text-3.ensures ∙ rw c.register_at.ensures)

@@ -6,7 +6,7 @@ use Rattle.register.proofs.Table.{index_in, index_out}
 use Rattle.register.proofs.index_of.Goals as goal
 
 pub returns-in-65-to-74 : goal.returns-in-65-to-74
-returns-in-65-to-74 c = c.wide.ensures ∙ sym (index_in c.args.letter (omega arith) (omega arith))
+returns-in-65-to-74 c = c.from.ensures ∙ sym (index_in c.args.letter (omega arith) (omega arith))
 
 pub returns-in_default : goal.returns-in_default
 returns-in_default c = sym (index_out c.args.letter (inl (omega arith)))
