@@ -46,17 +46,17 @@ pub fn value(a: Answer) -> u64
     ensures { result ≡ value a }
 {
     match a {
-        Answer::Done => 0,
-        Answer::Stored => 0,
         Answer::Replied(n) => n as u64,
-        Answer::OtherNode => 0,
-        Answer::BadForm => 0,
-        Answer::Dropped => 0,
-        Answer::TooLong => 0,
-        Answer::InAutomatic => 0,
-        Answer::NoRoom => 0,
-        Answer::UnknownKey => 0,
-        Answer::Refused(rule) => rule as u64,
-        Answer::NotStarted => 0,
+        Answer::Refused(rule) => u64::from(rule),
+        Answer::Done
+        | Answer::Stored
+        | Answer::OtherNode
+        | Answer::BadForm
+        | Answer::Dropped
+        | Answer::TooLong
+        | Answer::InAutomatic
+        | Answer::NoRoom
+        | Answer::UnknownKey
+        | Answer::NotStarted => 0,
     }
 }

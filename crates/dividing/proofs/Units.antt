@@ -28,10 +28,7 @@ unit_small b h =
 pub shifted : (b : ℕ) → 113 ≤ field b → 1 * 2 ^ (150 - field b) % 2 ^ 64 ≡ 2 ^ (150 - field b)
 shifted b h = ap (λ (x : ℕ). x % 2 ^ 64) (one-mul (2 ^ (150 - field b))) ∙ mod-eq_of_lt (lt_of_le_of_lt (unit_small b h) (lit< tt))
 
--- as the machine reads them
-pub read_times : (b p : ℕ) → p ≤ 10000 → to_z w64 (significand b * p) ≡ pos (significand b * p)
-read_times b p h = to_z_pos w64 (significand b * p) (lt_of_le_of_lt (times_small b p h) (lit< tt))
-
+-- as the machine reads it
 pub read_unit : (b : ℕ) → 113 ≤ field b → to_z w64 (1 * 2 ^ (150 - field b) % 2 ^ 64) ≡ pos (2 ^ (150 - field b))
 read_unit b h = ap (to_z w64) (shifted b h) ∙ to_z_pos w64 (2 ^ (150 - field b)) (lt_of_le_of_lt (unit_small b h) (lit< tt))
 

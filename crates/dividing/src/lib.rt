@@ -29,7 +29,7 @@ fn bits(display: i32, places: usize) -> u32
     requires { (in_display display ≡ true) × (places ≤ 4) }
     ensures { result ≡ bits places display }
 {
-    f32::to_bits(value(display, places))
+    value(display, places).to_bits()
 }
 
 // The one display that bits can be of, where their field is one that displays have: what they stand for, times the power of ten, to the
@@ -39,12 +39,12 @@ fn display_of(bits: u32, places: usize) -> i64
     ensures { result ≡ display_of places bits }
 {
     let significand = FIELD + bits % FIELD;
-    let times = ((significand as u64) * (exact::power_of_ten(places) as u64)) as i64;
-    let unit = (1u64 << (150 - bits % SIGN / FIELD)) as i64;
+    let times = i64::from(significand) * i64::from(exact::power_of_ten(places));
+    let unit = 1i64 << (150 - bits % SIGN / FIELD);
     if bits < SIGN {
         exact::nearest(times, unit)
     } else {
-        exact::nearest(0 - times, unit)
+        exact::nearest(-times, unit)
     }
 }
 
@@ -53,12 +53,9 @@ fn has_bits(number: i64, places: usize, pattern: u32) -> bool
     requires { places ≤ 4 }
     ensures { result ≡ in_display number && eqb (bits places number) pattern }
 {
-    let reading = reading::judged(number);
-    match reading {
-        Reading::Nothing => false,
-        Reading::Under => false,
+    match reading::judged(number) {
         Reading::Number(display) => bits(display, places) == pattern,
-        Reading::Over => false,
+        Reading::Nothing | Reading::Under | Reading::Over => false,
     }
 }
 
@@ -72,11 +69,5 @@ pub fn is_given(pattern: u32, places: usize) -> bool
         return true;
     }
     let field = pattern % SIGN / FIELD;
-    if field < 113 {
-        return false;
-    }
-    if 143 < field {
-        return false;
-    }
-    has_bits(display_of(pattern, places), places, pattern)
+    (113..=143).contains(&field) && has_bits(display_of(pattern, places), places, pattern)
 }

@@ -2,6 +2,7 @@
 use mathlib.Core.Path.{◌≡◌, refl}
 use mathlib.Core.List.{List, [], ◌∷◌, map}
 use Prim.Native.Nat.{ℕ}
+use Rattle.std.specs.Prelude.{Err}
 use lib.IntN.{pos}
 use lib.Ieee.{of_int, div, round, to_bits}
 use Rattle.exact.specs.Sign.{minus}
@@ -11,7 +12,6 @@ use Rattle.binary32.specs.Binary32.{value}
 use Rattle.filed.specs.Filed.{datum_of, record_of, taken_of}
 use Rattle.filed.specs.declared.Refusal.{Refusal}
 use Rattle.filed.specs.declared.Refusal.TheVariants as refusal
-use Rattle.filed.specs.declared.Taken.TheVariants as taken
 
 -- ---- what is written
 
@@ -62,6 +62,6 @@ refused =
     ∷ bad (0 ∷ 0 ∷ 0 ∷ 1 ∷ 0 ∷ 0 ∷ 0 ∷ 0x80 ∷ []) refusal.Places
     ∷ []
 
-pub refused_cases : map (λ b. taken_of b.bytes) refused ≡ map (λ b. taken.Refused b.why) refused
+pub refused_cases : map (λ b. taken_of b.bytes) refused ≡ map (λ b. Err b.why) refused
 unfolding taken_of
 refused_cases = refl

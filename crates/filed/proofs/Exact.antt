@@ -5,6 +5,7 @@ use mathlib.Core.List.{List, ◌∷◌}
 use Prim.Native.Nat.{ℕ, zero, suc, ◌+◌, ◌-◌, ◌^◌, ◌≤◌, ◌<◌}
 use native.Mathlib.Nat.{add-zero, le_antisymm, le_of_suc-le-suc, lt_of_not-le}
 use native.Mathlib.Omega.{arith}
+use Rattle.std.specs.Prelude.{Result, Ok, Err}
 use borrow.Author.Tests.{le-ltb, ltb-true, ltb-false, eqb-true, eqb-false, ne_eqb}
 use lib.Dec.{eqb, ltb, lit<, lit≤}
 use lib.IntN.{ℤ, pos, nat_abs}
@@ -24,8 +25,6 @@ use Rattle.filed.specs.Meaning.{IsRecord, Begins, Says, Judges, Bytes, Exact}
 use Rattle.filed.specs.declared.Record.{Record}
 use Rattle.filed.specs.declared.Refusal.{Refusal}
 use Rattle.filed.specs.declared.Refusal.TheVariants as refusal
-use Rattle.filed.specs.declared.Taken.{Taken}
-use Rattle.filed.specs.declared.Taken.TheVariants as taken
 use Rattle.filed.proofs.Bytes.{eight, eight_is, whole_bits, split_bits, narrow, kind_most, fits, datum_again}
 
 -- ---- reading back
@@ -37,7 +36,7 @@ passes kind places b k p h =
     rw (le-ltb 3 kind k, le-ltb 4 places p, whole_bits b h)
 
 pub back : (places : ℕ) (shown : Reading) → places ≤ 4 → displayable shown ≡ true
-    → taken_of (record_of places (datum_of places shown)) ≡ taken.Record (record { places = places; datum = datum_of places shown })
+    → taken_of (record_of places (datum_of places shown)) ≡ Ok (record { places = places; datum = datum_of places shown })
 unfolding record_of record_at
 back places shown p h =
     let x = datum_of places shown in
@@ -220,7 +219,7 @@ module _ (s : List ℕ) (l : length s ≡ 8) (small : Bytes s) where
       never (sym f ∙ t)
 
   judges_bits : kind ≤ 3 → places ≤ 4 → get_or s 2 0 ≡ 0 → get_or s 3 0 ≡ 0 → (t : Bool) → fitting kind places (bits_at s) ≡ t
-      → Judges s (cond t (taken.Record (record { places = places; datum = datum_at kind (bits_at s) })) (taken.Refused refusal.Value))
+      → Judges s (cond t (Ok (record { places = places; datum = datum_at kind (bits_at s) })) (Err refusal.Value))
   judges_bits k p x y true f = says k p x y f
   judges_bits k p x y false f =
       let alike : take 4 s ≡ take 4 (eight kind places 0 0 0 0 0 0) = ap (take 4) (eight_is s l) ∙ rw (x, y) in
@@ -230,7 +229,7 @@ module _ (s : List ℕ) (l : length s ≡ 8) (small : Bytes s) where
   begins_1 k = begun 1 kind 0 s k (lit≤ tt) l (sym (ap (take 1) (eight_is s l)))
 
   judges_places : kind ≤ 3 → (x y z : Bool) → eqb (get_or s 2 0) 0 ≡ x → eqb (get_or s 3 0) 0 ≡ y → ltb 4 places ≡ z
-      → Judges s (cond ((not x || not y) || z) (taken.Refused refusal.Places) (record_at kind places (bits_at s)))
+      → Judges s (cond ((not x || not y) || z) (Err refusal.Places) (record_at kind places (bits_at s)))
   unfolding record_at
   judges_places k true true false x y z =
       judges_bits k (ltb-false 4 places z) (eqb-true (get_or s 2 0) 0 x) (eqb-true (get_or s 3 0) 0 y) (fitting kind places (bits_at s)) refl
@@ -240,8 +239,8 @@ module _ (s : List ℕ) (l : length s ≡ 8) (small : Bytes s) where
 
   judges_kind : (t : Bool) → ltb 3 kind ≡ t
       → Judges s
-      (cond t (taken.Refused refusal.Kind)
-      (cond ((not (eqb (get_or s 2 0) 0) || not (eqb (get_or s 3 0) 0)) || ltb 4 places) (taken.Refused refusal.Places)
+      (cond t (Err refusal.Kind)
+      (cond ((not (eqb (get_or s 2 0) 0) || not (eqb (get_or s 3 0) 0)) || ltb 4 places) (Err refusal.Places)
       (record_at kind places (bits_at s))))
   judges_kind true e = (begun 0 0 0 s (lit≤ tt) (lit≤ tt) l refl, λ b. omega (arith, begins_kind 1 s b (lit≤ tt), ltb-true 3 kind e))
   judges_kind false e = judges_places (ltb-false 3 kind e) (eqb (get_or s 2 0) 0) (eqb (get_or s 3 0) 0) (ltb 4 places) refl refl refl
@@ -252,9 +251,9 @@ judges s small = go (eqb (length s) 8) refl
   where
     go : (t : Bool) → eqb (length s) 8 ≡ t
         → Judges s
-        (cond (not t) (taken.Refused refusal.Length)
-        (cond (ltb 3 (get_or s 0 0)) (taken.Refused refusal.Kind)
-        (cond ((not (eqb (get_or s 2 0) 0) || not (eqb (get_or s 3 0) 0)) || ltb 4 (get_or s 1 0)) (taken.Refused refusal.Places)
+        (cond (not t) (Err refusal.Length)
+        (cond (ltb 3 (get_or s 0 0)) (Err refusal.Kind)
+        (cond ((not (eqb (get_or s 2 0) 0) || not (eqb (get_or s 3 0) 0)) || ltb 4 (get_or s 1 0)) (Err refusal.Places)
         (record_at (get_or s 0 0) (get_or s 1 0) (bits_at s)))))
     go true e = judges_kind s (eqb-true (length s) 8 e) small (ltb 3 (get_or s 0 0)) refl
     go false e = λ b. eqb-false (length s) 8 e (begins_long 0 s b)
@@ -262,12 +261,12 @@ judges s small = go (eqb (length s) 8) refl
 -- ---- and no other answer does
 
 -- how far the bytes come as a record does, by the answer: 0 for another length, then the kind, the places and the bits, and 4 for a record
-abbrev rank : Taken → ℕ
-rank (taken.Refused refusal.Length) = 0
-rank (taken.Refused refusal.Kind) = 1
-rank (taken.Refused refusal.Places) = 2
-rank (taken.Refused refusal.Value) = 3
-rank (taken.Record x) = 4
+abbrev rank : Result Record Refusal → ℕ
+rank (Err refusal.Length) = 0
+rank (Err refusal.Kind) = 1
+rank (Err refusal.Places) = 2
+rank (Err refusal.Value) = 3
+rank (Ok x) = 4
 
 abbrev Reaches : List ℕ → ℕ → Type 0
 Reaches s zero = Unit
@@ -292,39 +291,39 @@ reaches_any s (suc k) n x =
     reaches_less s n (reaches_any s k (suc n) (subst (Reaches s) e x))
 
 -- an answer that judges the bytes says just how far they come
-reached : (s : List ℕ) (r : Taken) → Judges s r → Reaches s (rank r)
-reached s (taken.Refused refusal.Length) j = tt
-reached s (taken.Refused refusal.Kind) j = j.0
-reached s (taken.Refused refusal.Places) j = j.0
-reached s (taken.Refused refusal.Value) j = j.0
-reached s (taken.Record x) j =
+reached : (s : List ℕ) (r : Result Record Refusal) → Judges s r → Reaches s (rank r)
+reached s (Err refusal.Length) j = tt
+reached s (Err refusal.Kind) j = j.0
+reached s (Err refusal.Places) j = j.0
+reached s (Err refusal.Value) j = j.0
+reached s (Ok x) j =
     record { other = s; is = j.is; long = refl; alike = refl }
 
-no_further : (s : List ℕ) (r : Taken) → Judges s r → Reaches s (suc (rank r)) → ⊥
-no_further s (taken.Refused refusal.Length) j x = j x
-no_further s (taken.Refused refusal.Kind) j x = j.1 x
-no_further s (taken.Refused refusal.Places) j x = j.1 x
-no_further s (taken.Refused refusal.Value) j x = j.1 x
-no_further s (taken.Record y) j x = x
+no_further : (s : List ℕ) (r : Result Record Refusal) → Judges s r → Reaches s (suc (rank r)) → ⊥
+no_further s (Err refusal.Length) j x = j x
+no_further s (Err refusal.Kind) j x = j.1 x
+no_further s (Err refusal.Places) j x = j.1 x
+no_further s (Err refusal.Value) j x = j.1 x
+no_further s (Ok y) j x = x
 
-not_below : (s : List ℕ) (r q : Taken) → Judges s r → Judges s q → rank q ≤ rank r
+not_below : (s : List ℕ) (r q : Result Record Refusal) → Judges s r → Judges s q → rank q ≤ rank r
 not_below s r q j k =
     le_of_suc-le-suc (lt_of_not-le (λ (h : rank r < rank q).
     let e : rank q ≡ suc (rank r) + (rank q - suc (rank r)) = omega arith in
     no_further s r j (reaches_any s (rank q - suc (rank r)) (suc (rank r)) (subst (Reaches s) e (reached s q k)))))
 
 -- the refusal of each rank
-abbrev refusal_at : ℕ → Taken
+abbrev refusal_at : ℕ → Result Record Refusal
 refusal_at n =
-    taken.Refused (cond (eqb n 0) refusal.Length (cond (eqb n 1) refusal.Kind (cond (eqb n 2) refusal.Places refusal.Value)))
+    Err (cond (eqb n 0) refusal.Length (cond (eqb n 1) refusal.Kind (cond (eqb n 2) refusal.Places refusal.Value)))
 
-at_rank : (why : Refusal) → taken.Refused why ≡ refusal_at (rank (taken.Refused why))
+at_rank : (why : Refusal) → Err why ≡ refusal_at (rank (Err why))
 at_rank refusal.Length = refl
 at_rank refusal.Kind = refl
 at_rank refusal.Places = refl
 at_rank refusal.Value = refl
 
-refused_below : (why : Refusal) → rank (taken.Refused why) < 4
+refused_below : (why : Refusal) → rank (Err why) < 4
 refused_below refusal.Length = lit< tt
 refused_below refusal.Kind = lit< tt
 refused_below refusal.Places = lit< tt
@@ -333,24 +332,24 @@ refused_below refusal.Value = lit< tt
 same_record : (x y : Record) → x.places ≡ y.places → x.datum ≡ y.datum → x ≡ y
 same_record x y p d = λ i. record { places = p i; datum = d i }
 
-agree : (s : List ℕ) (r q : Taken) → Judges s r → Judges s q → rank r ≡ rank q → r ≡ q
-agree s (taken.Refused v) (taken.Refused w) j k e = at_rank v ∙ ap refusal_at e ∙ sym (at_rank w)
-agree s (taken.Refused v) (taken.Record y) j k e = absurd (omega (arith, refused_below v))
-agree s (taken.Record x) (taken.Refused w) j k e = absurd (omega (arith, refused_below w))
-agree s (taken.Record x) (taken.Record y) j k e =
+agree : (s : List ℕ) (r q : Result Record Refusal) → Judges s r → Judges s q → rank r ≡ rank q → r ≡ q
+agree s (Err v) (Err w) j k e = at_rank v ∙ ap refusal_at e ∙ sym (at_rank w)
+agree s (Err v) (Ok y) j k e = absurd (omega (arith, refused_below v))
+agree s (Ok x) (Err w) j k e = absurd (omega (arith, refused_below w))
+agree s (Ok x) (Ok y) j k e =
     let t = tells s j.is k.is in
-    ap taken.Record
+    ap Ok
     (same_record x y (j.places ∙ t.0 ∙ sym k.places)
     (j.datum ∙ ap₂ datum_of t.0 t.1 ∙ sym k.datum))
 
-only : (s : List ℕ) (answer : Taken) → Bytes s → Judges s answer → answer ≡ taken_of s
+only : (s : List ℕ) (answer : Result Record Refusal) → Bytes s → Judges s answer → answer ≡ taken_of s
 only s answer small j =
     let k = judges s small in
     agree s answer (taken_of s) j k (le_antisymm (not_below s (taken_of s) answer k j) (not_below s answer (taken_of s) j k))
 
 -- ---- and writing what is read gives the bytes again
 
-again : (s : List ℕ) (x : Record) → Bytes s → taken_of s ≡ taken.Record x → record_of x.places x.datum ≡ s
+again : (s : List ℕ) (x : Record) → Bytes s → taken_of s ≡ Ok x → record_of x.places x.datum ≡ s
 again s x small e =
     let j : Says s x = subst (Judges s) e (judges s small) in
     ap₂ record_of j.places j.datum ∙ sym j.is.text

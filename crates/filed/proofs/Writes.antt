@@ -5,6 +5,7 @@ use mathlib.Core.List.{List}
 use mathlib.Core.Logic.{◌≢◌}
 use Prim.Native.Nat.{ℕ}
 use native.Mathlib.Omega.{arith}
+use Rattle.std.specs.Prelude.{Result, Ok, Err}
 use lib.IntN.{ℤ, nat_abs}
 use lib.ListN.{length}
 use Rattle.exact.proofs.Z.{from_to}
@@ -14,22 +15,21 @@ use Rattle.line.specs.Buffer.{room, laid, after}
 use Rattle.filed.specs.Filed.{number, carried, datum_of, in_places, given_of, record_of, filed, written_where, left_where, written_of, left}
 use Rattle.filed.specs.Meaning.{Numbered, Writes}
 use Rattle.filed.specs.declared.Record.{Record}
+use Rattle.filed.specs.declared.Refusal.{Refusal}
 use Rattle.filed.specs.declared.Refusal.TheVariants as refusal
-use Rattle.filed.specs.declared.Written.{Written}
-use Rattle.filed.specs.declared.Written.TheVariants as written
-use Rattle.filed.specs.declared.Taken.{Taken}
-use Rattle.filed.specs.declared.Taken.TheVariants as taken
+use Rattle.filed.specs.declared.Unwritten.{Unwritten}
+use Rattle.filed.specs.declared.Unwritten.TheVariants as unwritten
 use Rattle.filed.proofs.Exact.{back}
 
 pub numbered : Numbered
 numbered = record { refusals = refl; answers = λ n. refl; carries = λ n. refl }
 
 -- what is given by the outcomes of two tests, and the answer and the buffer by those of three
-abbrev given : Bool → Bool → Record → Taken
-given p d x = cond (not p) (taken.Refused refusal.Places) (cond (not d) (taken.Refused refusal.Value) (taken.Record x))
+abbrev given : Bool → Bool → Record → Result Record Refusal
+given p d x = cond (not p) (Err refusal.Places) (cond (not d) (Err refusal.Value) (Ok x))
 
-abbrev answered : Bool → Bool → Bool → Written
-answered p d r = cond (not p) (written.Refused refusal.Places) (cond (not d) (written.Refused refusal.Value) (cond r (written.Bytes 8) written.NoRoom))
+abbrev answered : Bool → Bool → Bool → Result ℕ Unwritten
+answered p d r = cond (not p) (Err (unwritten.Refused refusal.Places)) (cond (not d) (Err (unwritten.Refused refusal.Value)) (cond r (Ok 8) (Err unwritten.NoRoom)))
 
 abbrev leaves : {A : Type 0} → Bool → Bool → Bool → A → A → A
 leaves p d r with_it as_it_was = cond (p && d) (cond r with_it as_it_was) as_it_was

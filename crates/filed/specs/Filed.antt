@@ -1,5 +1,5 @@
 -- A reading as it is filed with the historian, as document 02 has it: how it is given, what is written of it, and what is read of any bytes.
-use Rattle.std.specs.Prelude.{Bool, true, cond, not, ◌||◌, List, [], ◌∷◌, ℕ, ◌+◌, ◌*◌, ◌/◌, ◌%◌, ◌^◌, eqb, ltb, ℤ, pos, nat_abs, length, get_or}
+use Rattle.std.specs.Prelude.{Bool, Result, Ok, Err, true, cond, not, ◌||◌, List, [], ◌∷◌, ℕ, ◌+◌, ◌*◌, ◌/◌, ◌%◌, ◌^◌, eqb, ltb, ℤ, pos, nat_abs, length, get_or}
 use Rattle.std.specs.Float.{binary32}
 use Rattle.std.specs.Float.Ieee.{is_nan, to_bits, of_bits}
 use Rattle.exact.specs.Sign.{within}
@@ -10,12 +10,11 @@ use Rattle.line.specs.Buffer.{room, after}
 use Rattle.binary32.specs.Binary32.{value, gives}
 use Rattle.filed.specs.declared.Datum.{Datum}
 use Rattle.filed.specs.declared.Datum.TheVariants.{Value, Over, Under, Nothing}
+use Rattle.filed.specs.declared.Record.{Record}
 use Rattle.filed.specs.declared.Refusal.{Refusal}
 use Rattle.filed.specs.declared.Refusal.TheVariants as refusal
-use Rattle.filed.specs.declared.Written.{Written}
-use Rattle.filed.specs.declared.Written.TheVariants as written
-use Rattle.filed.specs.declared.Taken.{Taken}
-use Rattle.filed.specs.declared.Taken.TheVariants as taken
+use Rattle.filed.specs.declared.Unwritten.{Unwritten}
+use Rattle.filed.specs.declared.Unwritten.TheVariants as unwritten
 
 -- ---- the numbers
 
@@ -27,15 +26,15 @@ refusal_number refusal.Places = 32
 refusal_number refusal.Value = 33
 
 -- 2 with the number of bytes, and 9, are those of a reply
-abbrev pub number : Written → ℕ
-number (written.Bytes n) = 2
-number written.NoRoom = 9
-number (written.Refused why) = refusal_number why
+abbrev pub number : Result ℕ Unwritten → ℕ
+number (Ok n) = 2
+number (Err unwritten.NoRoom) = 9
+number (Err (unwritten.Refused why)) = refusal_number why
 
-abbrev pub carried : Written → ℕ
-carried (written.Bytes n) = n
-carried written.NoRoom = 0
-carried (written.Refused why) = 0
+abbrev pub carried : Result ℕ Unwritten → ℕ
+carried (Ok n) = n
+carried (Err unwritten.NoRoom) = 0
+carried (Err (unwritten.Refused why)) = 0
 
 -- ---- the record of a reading
 
@@ -68,9 +67,9 @@ has_bits Under = true
 has_bits Nothing = true
 
 -- the same of what is taken
-abbrev pub has_bits_in : Taken → Bool
-has_bits_in (taken.Record x) = has_bits x.datum
-has_bits_in (taken.Refused why) = true
+abbrev pub has_bits_in : Result Record Refusal → Bool
+has_bits_in (Ok x) = has_bits x.datum
+has_bits_in (Err why) = true
 
 -- four bytes, low byte first
 abbrev pub low_first : ℕ → List ℕ
@@ -87,11 +86,11 @@ abbrev pub in_places : ℤ → Bool
 in_places places = within (pos 0) (pos 4) places
 
 -- a reading with the places of its input: 32 for other places, 33 for a number that is no display, in this order
-unfoldable pub given_of : Reading → ℤ → Taken
+unfoldable pub given_of : Reading → ℤ → Result Record Refusal
 given_of shown places =
-    cond (not (in_places places)) (taken.Refused refusal.Places)
-    (cond (not (displayable shown)) (taken.Refused refusal.Value)
-    (taken.Record (record { places = nat_abs places; datum = datum_of (nat_abs places) shown })))
+    cond (not (in_places places)) (Err refusal.Places)
+    (cond (not (displayable shown)) (Err refusal.Value)
+    (Ok (record { places = nat_abs places; datum = datum_of (nat_abs places) shown })))
 
 -- ---- the writer
 
@@ -100,20 +99,20 @@ abbrev pub filed : ℤ → Reading → List ℕ
 filed places shown = record_of (nat_abs places) (datum_of (nat_abs places) shown)
 
 -- 8 bytes where they have room from a place on
-abbrev pub roomed : List ℕ → ℕ → Written
-roomed buffer place = cond (room (length buffer) place 8) (written.Bytes 8) written.NoRoom
+abbrev pub roomed : List ℕ → ℕ → Result ℕ Unwritten
+roomed buffer place = cond (room (length buffer) place 8) (Ok 8) (Err unwritten.NoRoom)
 
 -- of what was given: 2 with 8 bytes, or 9 where there is no room; a refusal stays one
-abbrev pub written_where : Taken → List ℕ → ℕ → Written
-written_where (taken.Record x) buffer place = roomed buffer place
-written_where (taken.Refused why) buffer place = written.Refused why
+abbrev pub written_where : Result Record Refusal → List ℕ → ℕ → Result ℕ Unwritten
+written_where (Ok x) buffer place = roomed buffer place
+written_where (Err why) buffer place = Err (unwritten.Refused why)
 
 -- the buffer afterwards: with the record in it, as a reply would be, or as it was
-abbrev pub left_where : Taken → List ℕ → ℕ → List ℕ
-left_where (taken.Record x) buffer place = after buffer place (record_of x.places x.datum)
-left_where (taken.Refused why) buffer place = buffer
+abbrev pub left_where : Result Record Refusal → List ℕ → ℕ → List ℕ
+left_where (Ok x) buffer place = after buffer place (record_of x.places x.datum)
+left_where (Err why) buffer place = buffer
 
-unfoldable pub written_of : Reading → ℤ → List ℕ → ℕ → Written
+unfoldable pub written_of : Reading → ℤ → List ℕ → ℕ → Result ℕ Unwritten
 written_of shown places buffer place = written_where (given_of shown places) buffer place
 
 unfoldable pub left : Reading → ℤ → List ℕ → ℕ → List ℕ
@@ -133,16 +132,16 @@ abbrev pub datum_at : ℕ → ℕ → Datum
 datum_at kind b = cond (eqb kind 0) (Value (of_bits binary32 b)) (cond (eqb kind 1) Over (cond (eqb kind 2) Under Nothing))
 
 -- 33 where they do not fit
-abbrev pub taken_where : Bool → ℕ → Datum → Taken
-taken_where fit places datum = cond fit (taken.Record (record { places = places; datum = datum })) (taken.Refused refusal.Value)
+abbrev pub taken_where : Bool → ℕ → Datum → Result Record Refusal
+taken_where fit places datum = cond fit (Ok (record { places = places; datum = datum })) (Err refusal.Value)
 
-unfoldable pub record_at : ℕ → ℕ → ℕ → Taken
+unfoldable pub record_at : ℕ → ℕ → ℕ → Result Record Refusal
 record_at kind places b = taken_where (fitting kind places b) places (datum_at kind b)
 
 -- 30, 31, 32 and 33 in this order, else what the record says
-unfoldable pub taken_of : List ℕ → Taken
+unfoldable pub taken_of : List ℕ → Result Record Refusal
 taken_of s =
-    cond (not (eqb (length s) 8)) (taken.Refused refusal.Length)
-    (cond (ltb 3 (get_or s 0 0)) (taken.Refused refusal.Kind)
-    (cond ((not (eqb (get_or s 2 0) 0) || not (eqb (get_or s 3 0) 0)) || ltb 4 (get_or s 1 0)) (taken.Refused refusal.Places)
+    cond (not (eqb (length s) 8)) (Err refusal.Length)
+    (cond (ltb 3 (get_or s 0 0)) (Err refusal.Kind)
+    (cond ((not (eqb (get_or s 2 0) 0) || not (eqb (get_or s 3 0) 0)) || ltb 4 (get_or s 1 0)) (Err refusal.Places)
     (record_at (get_or s 0 0) (get_or s 1 0) (bits_at s))))

@@ -1,6 +1,6 @@
 -- What is claimed of records: the reader takes exactly what the writer writes, each refusal is said by what no reading writes, and a record
 -- tells its reading; and what the writer answers and leaves.
-use Rattle.std.specs.Prelude.{◌≡◌, Bool, true, false, List, [], ◌∷◌, map, ◌≢◌, ℕ, ◌^◌, ◌≤◌, ◌<◌, ℤ, length, take, get_or}
+use Rattle.std.specs.Prelude.{◌≡◌, Bool, Result, Ok, Err, true, false, List, [], ◌∷◌, map, ◌≢◌, ℕ, ◌^◌, ◌≤◌, ◌<◌, ℤ, length, take, get_or}
 use Rattle.std.specs.Float.{inf, binary32}
 use Rattle.std.specs.Float.Ieee.{to_bits, nan_bits}
 use Rattle.reading.specs.Reading.{displayable}
@@ -8,10 +8,9 @@ use Rattle.reading.specs.declared.Reading.{Reading}
 use Rattle.line.specs.Buffer.{room, laid}
 use Rattle.filed.specs.Filed.{refusal_number, number, carried, datum_of, low_first, record_of, in_places, given_of, filed, written_of, left, taken_of}
 use Rattle.filed.specs.declared.Record.{Record}
+use Rattle.filed.specs.declared.Refusal.{Refusal}
 use Rattle.filed.specs.declared.Refusal.TheVariants as refusal
-use Rattle.filed.specs.declared.Written.TheVariants as written
-use Rattle.filed.specs.declared.Taken.{Taken}
-use Rattle.filed.specs.declared.Taken.TheVariants as taken
+use Rattle.filed.specs.declared.Unwritten.TheVariants as unwritten
 
 -- ---- the reader
 
@@ -38,12 +37,12 @@ pub record Says (s : List ℕ) (x : Record) : Type 0 where
 
 -- what an answer says of the bytes, without a number or a field of theirs. 30: no record is as long. 31: one is, but none has the kind.
 -- 32: one has the kind, but none the places and the filler too. 33: one has these, but none is these bytes.
-abbrev pub Judges : List ℕ → Taken → Type 0
-Judges s (taken.Record x) = Says s x
-Judges s (taken.Refused refusal.Length) = Begins 0 s → ⊥
-Judges s (taken.Refused refusal.Kind) = Begins 0 s × (Begins 1 s → ⊥)
-Judges s (taken.Refused refusal.Places) = Begins 1 s × (Begins 4 s → ⊥)
-Judges s (taken.Refused refusal.Value) = Begins 4 s × (Begins 8 s → ⊥)
+abbrev pub Judges : List ℕ → Result Record Refusal → Type 0
+Judges s (Ok x) = Says s x
+Judges s (Err refusal.Length) = Begins 0 s → ⊥
+Judges s (Err refusal.Kind) = Begins 0 s × (Begins 1 s → ⊥)
+Judges s (Err refusal.Places) = Begins 1 s × (Begins 4 s → ⊥)
+Judges s (Err refusal.Value) = Begins 4 s × (Begins 8 s → ⊥)
 
 -- numbers of a byte each
 abbrev pub Bytes : List ℕ → Type 0
@@ -53,31 +52,31 @@ Bytes s = (k : ℕ) → get_or s k 0 < 256
 pub record Exact : Type 0 where
   -- reading back what was written gives it again
   pub back : (places : ℕ) (shown : Reading) → places ≤ 4 → displayable shown ≡ true
-      → taken_of (record_of places (datum_of places shown)) ≡ taken.Record (record { places = places; datum = datum_of places shown })
+      → taken_of (record_of places (datum_of places shown)) ≡ Ok (record { places = places; datum = datum_of places shown })
   -- of any bytes the answer says what is so, and no other answer does
   pub judges : (s : List ℕ) → Bytes s → Judges s (taken_of s)
-  pub only : (s : List ℕ) (answer : Taken) → Bytes s → Judges s answer → answer ≡ taken_of s
+  pub only : (s : List ℕ) (answer : Result Record Refusal) → Bytes s → Judges s answer → answer ≡ taken_of s
   -- a record tells its reading and the places
   pub tells : (s : List ℕ) (r q : IsRecord s) → (r.places ≡ q.places) × (r.shown ≡ q.shown)
   -- and what is read of bytes, written again, is these bytes
-  pub again : (s : List ℕ) (x : Record) → Bytes s → taken_of s ≡ taken.Record x → record_of x.places x.datum ≡ s
+  pub again : (s : List ℕ) (x : Record) → Bytes s → taken_of s ≡ Ok x → record_of x.places x.datum ≡ s
 
 -- what is no display's whatever the places, named one by one: all of it is 33
 pub record Shut (places : ℕ) : Type 0 where
   -- 80000000h, for zero is +0; the infinities; and every NaN, which is judged by its bits
-  pub minus_zero : taken_of (0 ∷ places ∷ 0 ∷ 0 ∷ low_first 0x8000_0000) ≡ taken.Refused refusal.Value
-  pub infinity : (negative : Bool) → taken_of (0 ∷ places ∷ 0 ∷ 0 ∷ low_first (to_bits binary32 (inf negative))) ≡ taken.Refused refusal.Value
-  pub nan : (b : ℕ) → b < 2 ^ 32 → nan_bits binary32 b ≡ true → taken_of (0 ∷ places ∷ 0 ∷ 0 ∷ low_first b) ≡ taken.Refused refusal.Value
+  pub minus_zero : taken_of (0 ∷ places ∷ 0 ∷ 0 ∷ low_first 0x8000_0000) ≡ Err refusal.Value
+  pub infinity : (negative : Bool) → taken_of (0 ∷ places ∷ 0 ∷ 0 ∷ low_first (to_bits binary32 (inf negative))) ≡ Err refusal.Value
+  pub nan : (b : ℕ) → b < 2 ^ 32 → nan_bits binary32 b ≡ true → taken_of (0 ∷ places ∷ 0 ∷ 0 ∷ low_first b) ≡ Err refusal.Value
   -- and bits that are set where there is no value
-  pub beside_mark : (kind b : ℕ) → 1 ≤ kind → kind ≤ 3 → 1 ≤ b → b < 2 ^ 32 → taken_of (kind ∷ places ∷ 0 ∷ 0 ∷ low_first b) ≡ taken.Refused refusal.Value
+  pub beside_mark : (kind b : ℕ) → 1 ≤ kind → kind ≤ 3 → 1 ≤ b → b < 2 ^ 32 → taken_of (kind ∷ places ∷ 0 ∷ 0 ∷ low_first b) ≡ Err refusal.Value
 
 -- ---- the writer
 
 -- what is claimed of the numbers: they are document 02's, and a reply's for what is written
 pub record Numbered : Type 0 where
   pub refusals : map refusal_number (refusal.Length ∷ refusal.Kind ∷ refusal.Places ∷ refusal.Value ∷ []) ≡ 30 ∷ 31 ∷ 32 ∷ 33 ∷ []
-  pub answers : (n : ℕ) → map number (written.Bytes n ∷ written.NoRoom ∷ written.Refused refusal.Places ∷ written.Refused refusal.Value ∷ []) ≡ 2 ∷ 9 ∷ 32 ∷ 33 ∷ []
-  pub carries : (n : ℕ) → map carried (written.Bytes n ∷ written.NoRoom ∷ written.Refused refusal.Places ∷ written.Refused refusal.Value ∷ []) ≡ n ∷ 0 ∷ 0 ∷ 0 ∷ []
+  pub answers : (n : ℕ) → map number (Ok n ∷ Err unwritten.NoRoom ∷ Err (unwritten.Refused refusal.Places) ∷ Err (unwritten.Refused refusal.Value) ∷ []) ≡ 2 ∷ 9 ∷ 32 ∷ 33 ∷ []
+  pub carries : (n : ℕ) → map carried (Ok n ∷ Err unwritten.NoRoom ∷ Err (unwritten.Refused refusal.Places) ∷ Err (unwritten.Refused refusal.Value) ∷ []) ≡ n ∷ 0 ∷ 0 ∷ 0 ∷ []
 
 -- what is claimed of a reading that is to be written, of whatever is given
 pub record Writes (shown : Reading) (places : ℤ) (buffer : List ℕ) (place : ℕ) : Type 0 where

@@ -2,7 +2,11 @@
 // `filing`, so that a claim is checked without them.
 #![tactic(auto)]
 
-// A reading as the historian takes it: a value, or one of the three that have none.
+ghost use Rattle.std.specs.Prelude.{◌≡◌};
+ghost use Rattle.filed.specs.declared.Unwritten.TheVariants.{Refused};
+
+// A reading as the historian takes it: a value, or one of the three that have none. It is a type of its own beside `Reading`, whose numbers
+// are whole in every crate but these.
 #[derive(Clone, Copy)]
 pub enum Datum {
     Value(f32),
@@ -19,7 +23,7 @@ pub struct Record {
 }
 
 // Why something is refused: it is not of 8 bytes; its kind is none; its filler or its places are not such; or no display has its value.
-#[derive(Clone, Copy)]
+#[derive(Clone, Copy, Debug, PartialEq, Eq)]
 pub enum Refusal {
     Length,
     Kind,
@@ -27,17 +31,17 @@ pub enum Refusal {
     Value,
 }
 
-// What became of a reading that was to be written: so many bytes of it were, it had no room, or it is refused.
-#[derive(Clone, Copy)]
-pub enum Written {
-    Bytes(usize),
+// Why a reading was not written: it had no room, or it is refused.
+#[derive(Clone, Copy, Debug, PartialEq, Eq)]
+pub enum Unwritten {
     NoRoom,
     Refused(Refusal),
 }
 
-// What a reading or bytes are taken for: a record, or they are refused.
-#[derive(Clone, Copy)]
-pub enum Taken {
-    Record(Record),
-    Refused(Refusal),
+impl From<Refusal> for Unwritten {
+    ghost from_gives = { λ why unwritten. unwritten ≡ Refused why };
+
+    fn from(why: Refusal) -> Unwritten {
+        Unwritten::Refused(why)
+    }
 }

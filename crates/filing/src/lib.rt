@@ -1,13 +1,12 @@
 // A reading given as the historian takes it, and the writer and the reader of its records.
 #![tactic(auto)]
 
-ghost use Rattle.std.specs.Prelude.{◌≡◌, true, ◌∷◌, ◌+◌, ◌*◌, ◌^◌, ◌≤◌, eqb};
+ghost use Rattle.std.specs.Prelude.{◌≡◌, true, ◌≤◌, eqb};
 ghost use Rattle.reading.specs.Reading.{displayable};
 ghost use Rattle.line.specs.Buffer.{after};
-ghost use Rattle.binary32.specs.Binary32.{value, bits};
-ghost use Rattle.filed.specs.Filed.{refusal_number, datum_of, has_bits, low_first, given_of, record_of, roomed, written_of, left, taken_where, record_at, taken_of};
+ghost use Rattle.filed.specs.Filed.{refusal_number, datum_of, kind_of, bits_of, has_bits, given_of, record_of, roomed, written_of, left, taken_where, record_at, taken_of};
 
-use filed::{Datum, Record, Refusal, Taken, Written};
+use filed::{Datum, Record, Refusal, Unwritten};
 use reading::Reading;
 
 // ---- a reading, given
@@ -26,97 +25,99 @@ fn datum(reading: Reading, places: usize) -> Datum
 }
 
 // A reading, with the places of its input, as a value, Over, Under or none.
-pub fn give(reading: Reading, places: i32) -> Taken
+#[tactic(auto, unfolding(filed::specs::Filed::given_of))]
+pub fn give(reading: Reading, places: i32) -> Result<Record, Refusal>
     ensures { result ≡ given_of reading places }
 {
-    if !exact::is_within(places, 0, 4) {
-        return Taken::Refused(Refusal::Places);
+    if !(0..=4).contains(&places) {
+        return Err(Refusal::Places);
     }
     if !reading::is_displayable(reading) {
-        return Taken::Refused(Refusal::Value);
+        return Err(Refusal::Value);
     }
     let datum = datum(reading, places as usize);
     let places = places as u8;
-    Taken::Record(Record { places, datum })
+    Ok(Record { places, datum })
 }
 
 // ---- the writer
 
-// Kind, places, two zeros, and bits from the low byte on.
-fn record(kind: u8, places: u8, bits: u32) -> [u8; 8]
-    ensures { result ≡ kind ∷ places ∷ 0 ∷ 0 ∷ low_first bits }
+// The number that a record has for a datum, 0 a value, 1 Over, 2 Under, 3 none, and the bits, 0 where there is no value. A value has to be a
+// number, for a NaN has no bits of its own.
+pub fn kind_and_bits(datum: Datum) -> (u8, u32)
+    requires { has_bits datum ≡ true }
+    ensures kind { result.0 ≡ kind_of datum }
+    ensures bits { result.1 ≡ bits_of datum }
 {
-    let low = (bits % 256) as u8;
-    let second = (bits / 256 % 256) as u8;
-    let third = (bits / 65536 % 256) as u8;
-    let high = (bits / 16777216 % 256) as u8;
-    [kind, places, 0, 0, low, second, third, high]
+    match datum {
+        Datum::Value(x) => (0, x.to_bits()),
+        Datum::Over => (1, 0),
+        Datum::Under => (2, 0),
+        Datum::Nothing => (3, 0),
+    }
 }
 
-// The bytes of a record whose value, if it has one, is a number.
+// The bytes of a record whose value, if it has one, is a number: kind, places, two zeros, and bits from the low byte on.
+#[tactic(auto, unfolding(filed::specs::Filed::record_of))]
 fn bytes_of(said: Record) -> [u8; 8]
     requires { has_bits said.datum ≡ true }
     ensures { result ≡ record_of said.places said.datum }
 {
-    let places = said.places;
-    let datum = said.datum;
-    match datum {
-        Datum::Value(x) => record(0, places, f32::to_bits(x)),
-        Datum::Over => record(1, places, 0),
-        Datum::Under => record(2, places, 0),
-        Datum::Nothing => record(3, places, 0),
-    }
+    let (kind, bits) = kind_and_bits(said.datum);
+    let [low, second, third, high] = bits.to_le_bytes();
+    [kind, said.places, 0, 0, low, second, third, high]
 }
 
 // A record laid into the buffer from a place on, as a reply is, where all of it has room.
-fn lay(buf: &mut [u8], place: usize, text: [u8; 8]) -> Written
+fn lay(buf: &mut [u8], place: usize, text: [u8; 8]) -> Result<usize, Unwritten>
     ensures value { result ≡ roomed buf.old place }
     ensures buf_after { buf.new ≡ after buf.old place text }
 {
-    if line::has_room(buf.len(), place, 8) {
-        line::put_text(&mut buf[place..], &text);
-        return Written::Bytes(8);
-    }
-    Written::NoRoom
+    line::write_whole(buf, place, 8, |tail| line::put_text(tail, &text)).ok_or(Unwritten::NoRoom)
 }
 
 // A reading, with the places of its input, written as a record from a place of the lent buffer on.
-pub fn write(reading: Reading, places: i32, buf: &mut [u8], place: usize) -> Written
+#[tactic(auto, unfolding(filed::specs::Filed::written_of, filed::specs::Filed::left))]
+pub fn write(
+    reading: Reading,
+    places: i32,
+    buf: &mut [u8],
+    place: usize,
+) -> Result<usize, Unwritten>
     ensures value { result ≡ written_of reading places buf.old place }
     ensures buf_after { buf.new ≡ left reading places buf.old place }
 {
-    let given = give(reading, places);
-    match given {
-        Taken::Record(said) => lay(buf, place, bytes_of(said)),
-        Taken::Refused(why) => Written::Refused(why),
-    }
+    let said = give(reading, places)?;
+    lay(buf, place, bytes_of(said))
 }
 
 // ---- the reader
 
 // A record with a value.
-fn value_at(places: u8, pattern: u32) -> Taken
+#[tactic(auto, using(dividing::proofs::Values::given_number), unfolding(filed::specs::Filed::record_at))]
+fn value_at(places: u8, pattern: u32) -> Result<Record, Refusal>
     requires { places ≤ 4 }
     ensures { result ≡ record_at 0 places pattern }
 {
-    if dividing::is_given(pattern, places as usize) {
-        let datum = Datum::Value(f32::from_bits(pattern));
-        return Taken::Record(Record { places, datum });
+    if !dividing::is_given(pattern, usize::from(places)) {
+        return Err(Refusal::Value);
     }
-    Taken::Refused(Refusal::Value)
+    let datum = Datum::Value(f32::from_bits(pattern));
+    Ok(Record { places, datum })
 }
 
 // A record that has none, and so no bit set.
-fn mark_at(places: u8, bits: u32, datum: Datum) -> Taken
+fn mark_at(places: u8, bits: u32, datum: Datum) -> Result<Record, Refusal>
     ensures { result ≡ taken_where (eqb bits 0) places datum }
 {
-    if bits == 0 {
-        return Taken::Record(Record { places, datum });
+    if bits != 0 {
+        return Err(Refusal::Value);
     }
-    Taken::Refused(Refusal::Value)
+    Ok(Record { places, datum })
 }
 
-fn record_at(kind: u8, places: u8, pattern: u32) -> Taken
+#[tactic(auto, unfolding(filed::specs::Filed::record_at))]
+fn record_at(kind: u8, places: u8, pattern: u32) -> Result<Record, Refusal>
     requires { places ≤ 4 }
     ensures { result ≡ record_at kind places pattern }
 {
@@ -128,29 +129,21 @@ fn record_at(kind: u8, places: u8, pattern: u32) -> Taken
     }
 }
 
-// The number of four bytes, of which the low one stands first.
-fn from_low(a: u8, b: u8, c: u8, d: u8) -> u32
-    ensures { result ≡ a + 256 * b + 256 ^ 2 * c + 256 ^ 3 * d }
-{
-    (a as u32) + 256 * (b as u32) + 65536 * (c as u32) + 16777216 * (d as u32)
-}
-
 // Any bytes, taken for a record.
-pub fn read(s: &[u8]) -> Taken
+#[tactic(auto, unfolding(filed::specs::Filed::taken_of))]
+pub fn read(s: &[u8]) -> Result<Record, Refusal>
     ensures { result ≡ taken_of s.now }
 {
-    if s.len() != 8 {
-        return Taken::Refused(Refusal::Length);
+    let &[kind, places, filler, other_filler, low, second, third, high] = s else {
+        return Err(Refusal::Length);
+    };
+    if kind > 3 {
+        return Err(Refusal::Kind);
     }
-    let kind = s[0];
-    if 3 < kind {
-        return Taken::Refused(Refusal::Kind);
+    if filler != 0 || other_filler != 0 || places > 4 {
+        return Err(Refusal::Places);
     }
-    let places = s[1];
-    if (s[2] != 0) | (s[3] != 0) | (4 < places) {
-        return Taken::Refused(Refusal::Places);
-    }
-    record_at(kind, places, from_low(s[4], s[5], s[6], s[7]))
+    record_at(kind, places, u32::from_le_bytes([low, second, third, high]))
 }
 
 // A refusal's number.

@@ -1,12 +1,12 @@
 -- What the 12 data bytes of a reply line say, read from the left: a number with its decimal places, a mark, or neither. `Meaning` says what
 -- that comes to: bytes are read exactly where the reply rules make them.
-use Rattle.std.specs.Prelude.{ℕ, ◌+◌, ◌-◌, ◌*◌, ◌^◌, Bool, true, false, cond, ◌&&◌, List, [], ◌∷◌, eqb, ltb, pos}
+use Rattle.std.specs.Prelude.{ℕ, ◌+◌, ◌-◌, ◌*◌, ◌^◌, Option, Some, None, Bool, true, false, cond, ◌&&◌, List, [], ◌∷◌, eqb, ltb, pos}
 use Rattle.exact.specs.Sign.{minus}
+use Rattle.reading.specs.declared.Reading.{Reading}
 use Rattle.reading.specs.declared.Reading.TheVariants as reading
 use Rattle.register.specs.Bytes.{byte, ascii}
 use Rattle.field.specs.Back.{is_digit}
 use Rattle.readback.specs.declared.Data.{Data}
-use Rattle.readback.specs.declared.Data.TheVariants as said
 use Rattle.readback.specs.declared.Figure.{Figure}
 use Rattle.readback.specs.declared.Figure.TheVariants as figure
 
@@ -58,17 +58,21 @@ size (figure.Whole negative n) = n
 size (figure.Fraction negative n places) = n
 size figure.Not = 0
 
+-- what they say, where some value makes them
+abbrev pub said : ℕ → Reading → Option Data
+said places shown = Some (record { places = places; shown = shown })
+
 -- no minus stands on zero
-abbrev pub signed : Bool → ℕ → ℕ → Data
-signed false n places = said.Shows places (reading.Number (pos n))
-signed true n places = cond (eqb n 0) said.Not (said.Shows places (reading.Number (minus n)))
+abbrev pub signed : Bool → ℕ → ℕ → Option Data
+signed false n places = said places (reading.Number (pos n))
+signed true n places = cond (eqb n 0) None (said places (reading.Number (minus n)))
 
 -- a number is made where a digit stands last
-unfoldable pub said_by : Figure → Data
-said_by (figure.Front negative) = said.Not
+unfoldable pub said_by : Figure → Option Data
+said_by (figure.Front negative) = None
 said_by (figure.Whole negative n) = signed negative n 0
-said_by (figure.Fraction negative n places) = cond (eqb places 0) said.Not (signed negative n places)
-said_by figure.Not = said.Not
+said_by (figure.Fraction negative n places) = cond (eqb places 0) None (signed negative n places)
+said_by figure.Not = None
 
 -- ---- the data bytes
 
@@ -80,9 +84,9 @@ same (a ∷ s) [] = false
 same (a ∷ s) (b ∷ t) = eqb a b && same s t
 
 -- a mark, whose places are 0, or a number
-unfoldable pub data_of : List ℕ → Data
+unfoldable pub data_of : List ℕ → Option Data
 data_of s =
-    cond (same s (ascii "        OLOL")) (said.Shows 0 reading.Over)
-    (cond (same s (ascii "        ULUL")) (said.Shows 0 reading.Under)
-    (cond (same s (ascii "        ----")) (said.Shows 0 reading.Nothing)
+    cond (same s (ascii "        OLOL")) (said 0 reading.Over)
+    (cond (same s (ascii "        ULUL")) (said 0 reading.Under)
+    (cond (same s (ascii "        ----")) (said 0 reading.Nothing)
     (said_by (figure_of s))))

@@ -1,50 +1,27 @@
--- `filing::lay` meets its contract: with room for all of it the record is laid from the place on, and without it nothing is written. Assumes nothing.
-use mathlib.Core.Path.{◌≡◌, sym, ◌∙◌}
-use Prim.Native.Nat.{◌-◌, ◌≤◌}
-use borrow.Author.Rules.{rules}
-use lib.ListN.{length}
-use Rattle.line.proofs.Over.{tail_length, roomy, wrote, refused}
+-- `filing::lay` meets its contract: what is put is the record, which is as long as the room that is asked for. Assumes nothing.
+use Rattle.std.proofs.Common.{◌≡◌, ◌∙◌, refl, ap, List, ℕ, ◌++◌, length, take, drop, Bool, true, false, cond, Option, Some, None, Ok, Err, ok_or, rules}
+use Rattle.line.specs.Buffer.{over, room}
+use Rattle.line.proofs.Over.{whole}
+use Rattle.filed.specs.declared.Unwritten.TheVariants.{NoRoom}
 use Rattle.filing.proofs.lay.Goals as goal
-use Rattle.filing.proofs.lay.Lts as lts
-use Rattle.filing.proofs.lay.Reads as reads
-use Rattle.filing.proofs.lay.Tie as tie
 
-abbrev Then-has_room : Type 0
-Then-has_room = lts.Then1 tie.the-claims reads.Pre reads.Post tie.handed_clauses
+by_room : (t : Bool) (n : ℕ) → ok_or (cond t (Some n) None) NoRoom ≡ cond t (Ok n) (Err NoRoom)
+by_room true n = refl
+by_room false n = refl
 
-abbrev Start : Type 0
-Start = lts.Start tie.the-claims reads.Pre reads.Post tie.handed_clauses
+pub returns-clause-value : goal.returns-clause-value
+returns-clause-value c =
+    let a = c.args in
+    c.ok_or.ensures.value ∙ ap (λ (r : Option ℕ). ok_or r NoRoom) c.write_whole.ensures.value ∙ by_room (room (length a.buf.now) a.place 8) 8
 
--- the record has eight bytes
-sized : (s : Start) → length s.args.text ≡ 8
-sized s = search rules
-
--- the room that the test found
-found : (c : Then-has_room) →
-    let s = c in
-    (s.args.place ≤ length s.args.buf.now) × (8 ≤ length s.args.buf.now - s.args.place)
-found c =
-    let s = c in
-    roomy (length s.args.buf.now) s.args.place 8 (sym c.has_room.ensures ∙ c.if-has_room.true)
-
-pub slice_bounds-put_text-count : goal.slice_bounds-put_text-count
-slice_bounds-put_text-count c = (found c.before).0
-
-pub put_text-requires : goal.put_text-requires
-put_text-requires c =
-    let s = c in
-    rw (tail_length s.args.buf.now s.args.place, sized s.before.before.before.before.before) (found c.before.before).1
-
-pub returns-then-has_room : goal.returns-then-has_room
-returns-then-has_room c =
-    let r = c in
-    let s = r in
-    let yes = sym r.has_room.ensures ∙ c.if-has_room.true in
-    record { value = rw yes; buf_after = (wrote s.args.buf.now s.args.text _ s.args.place 8 (sym (sized s.before.before.before.before.before.before.before.before.before)) yes c.put_text.ensures).1 }
-
-pub returns : goal.returns
-returns c =
-    let r = c in
-    let s = r in
-    let none = sym r.has_room.ensures ∙ c.if-has_room.false in
-    record { value = rw none; buf_after = (refused s.args.buf.now s.args.text s.args.place 8 (sym (sized s.before.before.before.before)) none).1 }
+pub returns-clause-buf_after : goal.returns-clause-buf_after
+returns-clause-buf_after c =
+    let a = c.args in
+    let w = c.write_whole in
+    let long : 8 ≡ length a.text = search rules in
+    (whole a.buf.now a.text _ a.place 8 _ long w.ensures.value
+    (λ e.
+    let t = w.ensures.written e in
+    let q : t.0 ≡ over (drop a.place a.buf.now) a.text = search rules in
+    t.2 ∙ ap (λ (tail : List ℕ). take a.place a.buf.now ++ tail) q)
+    w.ensures.left).1
