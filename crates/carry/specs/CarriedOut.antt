@@ -3,7 +3,7 @@ use Rattle.std.specs.Prelude.{◌≡◌, cond, ◌&&◌, List, [], ◌∷◌, �
 use Rattle.std.proofs.Math.Option.{Option, none, some}
 use Rattle.config.specs.Config.{judged}
 use Rattle.config.specs.declared.Config.{Config}
-use Rattle.config.specs.declared.Verdict.TheVariants.{Accepted}
+use Rattle.config.specs.Verdict.{Accepted}
 use Rattle.meter.specs.Meter.{Step}
 use Rattle.meter.specs.Slices.{is_byte, carried_one, carried_out}
 use Rattle.looking.specs.History.{Event, sample, key, byte, History, last_outcome}

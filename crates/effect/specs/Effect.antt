@@ -1,18 +1,15 @@
 -- What a key or a string asks, carried out over settings and instrument alone. No receiver, no buffer and no place occurs in an effect:
 -- whoever lends a buffer settles it.
-use Rattle.std.specs.Prelude.{cond, List, ℕ, eqb, ℤ, pos, nat_abs}
+use Rattle.std.specs.Prelude.{cond, Option, None, Some, List, ℕ, eqb, ℤ, pos, nat_abs}
 use Rattle.exact.specs.Sign.{eq_z}
 use Rattle.register.specs.Registers.{at}
 use Rattle.config.specs.declared.Talking.{Talking}
 use Rattle.config.specs.declared.Working.{Working}
 use Rattle.command.specs.declared.Asked.{Asked}
 use Rattle.command.specs.declared.Asked.TheVariants.{Read, Print, Reset, Write, Status, BadForm as BadString}
-use Rattle.command.specs.declared.Parsed.{Parsed}
-use Rattle.command.specs.declared.Parsed.TheVariants.{NoNode, To}
+use Rattle.command.specs.Parse.{Parsed}
 use Rattle.command.specs.Parse.{parse}
 use Rattle.line.specs.Buffer as buffers
-use Rattle.line.specs.declared.Written.{Written}
-use Rattle.line.specs.declared.Written.TheVariants.{Bytes, NoRoom as NoPlace}
 use Rattle.instrument.specs.Instrument.{reset_register, reset_alarms, batched, shut, write_register, write_status}
 use Rattle.instrument.specs.declared.Instrument.{Instrument}
 use Rattle.answer.specs.declared.Answer.{Answer}
@@ -51,8 +48,8 @@ carried t w i BadString = stands (settled BadForm i)
 -- ---- a string: the address first (4 where N has no digit, 3 for another node), then what is asked
 
 abbrev pub addressed : Talking → Working → Instrument → Parsed → Effect
-addressed t w i NoNode = stands (settled BadForm i)
-addressed t w i (To node asked) =
+addressed t w i None = stands (settled BadForm i)
+addressed t w i (Some (node, asked)) =
     cond (eqb node (nat_abs t.node)) (carried t w i asked) (stands (settled OtherNode i))
 
 abbrev pub told : Talking → Working → Instrument → List ℕ → Effect
@@ -84,9 +81,9 @@ pub record Settlement : Type 0 where
   pub settled : Settled
   pub buffer : List ℕ
 
-abbrev pub by_room : Instrument → Instrument → Written → Settled
-by_room before i (Bytes n) = settled (Replied n) i
-by_room before i NoPlace = settled NoRoom before
+abbrev pub by_room : Instrument → Instrument → Option ℕ → Settled
+by_room before i (Some n) = settled (Replied n) i
+by_room before i None = settled NoRoom before
 
 abbrev pub settle : Instrument → Effect → List ℕ → ℕ → Settlement
 settle before (stands s) buffer place = record { settled = s; buffer = buffer }

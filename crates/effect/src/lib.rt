@@ -1,25 +1,25 @@
 // What a key or a string asks is carried out, over settings and instrument alone: the answer, the instrument afterwards, and a reply in
 // the lent buffer. Neither the receiver nor the rest of a meter is handed over.
+// Settings and instrument are parameters beside each other, and no struct with `Able` as its ghost field: `press` and `tell` are handed
+// them so and every definition takes them so, and each contract would read `on.talking on.working on.instrument` for `talking working i`.
 #![tactic(auto)]
 
 mod reply;
 
-ghost use Rattle.std.specs.Prelude.{◌≡◌, true, ℕ, ◌≤◌, ◌<◌};
+ghost use Rattle.std.specs.Prelude.{◌≡◌, true, Some, ℕ, ◌≤◌, ◌<◌};
 ghost use Rattle.answer.specs.declared.Answer.TheVariants.{Done};
 ghost use Rattle.register.specs.Registers.{at, count};
 ghost use Rattle.total.specs.Total.{Timed, in_range};
 ghost use Rattle.form.specs.Understood.{Permitted};
 ghost use Rattle.command.specs.declared.Asked.{Asked};
-ghost use Rattle.command.specs.declared.Parsed.TheVariants.{To};
 ghost use Rattle.effect.specs.Reply.{read_reply, print_reply};
 ghost use Rattle.effect.specs.Effect.{settled, replies, by_room, written, carried, addressed, batch, pressed, settle};
 ghost use Rattle.effect.specs.Able.{can_talk, can_work, able, Able};
 
 use answer::Answer;
-use command::{Asked, Parsed};
+use command::Asked;
 use config::{Talking, Working};
 use instrument::Instrument;
-use line::Written;
 use reply::{own_node, print, read};
 
 // An answer, and the instrument with it.
@@ -30,15 +30,15 @@ pub struct Settled {
 }
 
 // What a reply comes to: with no room for it the instrument before it stays.
-fn by_room(before: Instrument, i: Instrument, written: Written) -> Settled
+fn by_room(before: Instrument, i: Instrument, written: Option<usize>) -> Settled
     ensures { result ≡ by_room before i written }
 {
     match written {
-        Written::Bytes(n) => Settled {
+        Some(n) => Settled {
             answer: Answer::Replied(n),
             instrument: i,
         },
-        Written::NoRoom => Settled {
+        None => Settled {
             answer: Answer::NoRoom,
             instrument: before,
         },
@@ -96,9 +96,7 @@ fn write(working: Working, i: Instrument, register: usize, z: i32) -> Settled
     requires { (at "E" ≤ register) × (register ≤ at "I") }
     ensures { result ≡ written working i register z }
 {
-    let outputs = i.outputs;
-    let mode = outputs.mode;
-    if operating::is_shut(mode, register) {
+    if operating::is_shut(i.outputs.mode, register) {
         return Settled {
             answer: Answer::InAutomatic,
             instrument: i,
@@ -139,21 +137,21 @@ pub fn tell(
     talking: Talking,
     working: Working,
     i: Instrument,
-    parsed: Parsed,
+    parsed: Option<(u8, Asked)>,
     buffer: &mut [u8],
     place: usize,
 ) -> Settled
     requires able { Able talking working i }
-    requires by_index { (node : ℕ) (asked : Asked) → parsed ≡ To node asked → Permitted asked }
+    requires by_index { (node : ℕ) (asked : Asked) → parsed ≡ Some (node, asked) → Permitted asked }
     ensures value { result ≡ (settle i (addressed talking working i parsed) buffer.old place).settled }
     ensures buffer_after { buffer.new ≡ (settle i (addressed talking working i parsed) buffer.old place).buffer }
 {
     match parsed {
-        Parsed::NoNode => Settled {
+        None => Settled {
             answer: Answer::BadForm,
             instrument: i,
         },
-        Parsed::To(node, asked) => {
+        Some((node, asked)) => {
             if node == own_node(talking.node) {
                 carry_out(talking, working, i, asked, buffer, place)
             } else {
@@ -174,8 +172,7 @@ fn batch(working: Working, i: Instrument) -> Settled
     requires total_value { in_range working.totalizer i.measured.total ≡ true }
     ensures { result ≡ batch working i }
 {
-    let totalizer = working.totalizer;
-    if totalizer.batch {
+    if working.totalizer.batch {
         done(operating::batched(working, i))
     } else {
         Settled {
@@ -218,26 +215,20 @@ pub fn press(
 fn can_talk(talking: Talking) -> bool
     ensures { result ≡ can_talk talking }
 {
-    let places = talking.places;
-    exact::is_within(talking.node, 0, 99) & config::places_rule(places)
+    (0..=99).contains(&talking.node) && config::places_rule(talking.places)
 }
 
 // A time base to divide by, and analog displays that differ.
 fn can_work(working: Working) -> bool
     ensures { result ≡ can_work working }
 {
-    let totalizer = working.totalizer;
-    let analog = working.analog;
-    exact::is_within(totalizer.time_base, 1, 86400) & (analog.low != analog.high)
+    (1..=86400).contains(&working.totalizer.time_base) && working.analog.low != working.analog.high
 }
 
 // Whether settings and instrument are ones that can be carried out on.
+#[tactic(auto, using(crate::proofs::Able::timed), unfolding(crate::specs::Able::able))]
 pub fn is_able(talking: Talking, working: Working, i: Instrument) -> bool
     ensures { result ≡ able talking working i }
 {
-    if can_talk(talking) & can_work(working) {
-        operating::is_sound(working, i)
-    } else {
-        false
-    }
+    can_talk(talking) && can_work(working) && operating::is_sound(working, i)
 }

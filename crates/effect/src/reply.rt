@@ -11,7 +11,7 @@ ghost use Rattle.effect.specs.Able.{Able};
 use block::Values;
 use config::{Places, Talking, Working};
 use instrument::Instrument;
-use line::{Style, Written};
+use line::Style;
 
 // The node as the byte that lines and addresses have it.
 pub fn own_node(node: i32) -> u8
@@ -32,6 +32,7 @@ fn style(talking: Talking) -> Style
 }
 
 // T: the line of one register.
+#[tactic(auto, using(crate::proofs::Shows::writable), unfolding(crate::specs::Reply::read_reply))]
 pub fn read(
     talking: Talking,
     working: Working,
@@ -39,17 +40,15 @@ pub fn read(
     register: usize,
     buffer: &mut [u8],
     place: usize,
-) -> Written
+) -> Option<usize>
     requires able { Able talking working i }
     requires register_lt_count { register < count }
     ensures value { result ≡ answer buffer.old place (read_reply talking working i register) }
     ensures buffer_after { buffer.new ≡ after buffer.old place (read_reply talking working i register) }
 {
-    let style = style(talking);
-    let all = talking.places;
-    let places = operating::places_at(all, register);
+    let places = operating::places_at(talking.places, register);
     let shown = operating::shown_at(working, i, register);
-    line::write_line(buffer, place, style, register, places, shown)
+    line::write_line(buffer, place, style(talking), register, places, shown)
 }
 
 // What a block shows.
@@ -67,33 +66,29 @@ fn values(places: Places, working: Working, i: Instrument) -> Values
     let total = operating::shown_at(working, i, register::TOT);
     let max = operating::shown_at(working, i, register::MAX);
     let min = operating::shown_at(working, i, register::MIN);
-    let alarms = i.alarms;
-    let setpoints = alarms::setpoints(alarms);
     Values {
         places: shown,
         input,
         total,
         max,
         min,
-        setpoints,
+        setpoints: alarms::setpoints(i.alarms),
     }
 }
 
 // P and key 6: the block.
+#[tactic(auto, using(crate::proofs::Shows::printable, crate::proofs::Shows::block_is))]
 pub fn print(
     talking: Talking,
     working: Working,
     i: Instrument,
     buffer: &mut [u8],
     place: usize,
-) -> Written
+) -> Option<usize>
     requires { Able talking working i }
     ensures value { result ≡ answer buffer.old place (print_reply talking working i) }
     ensures buffer_after { buffer.new ≡ after buffer.old place (print_reply talking working i) }
 {
-    let style = style(talking);
-    let all = talking.places;
-    let chosen = talking.print;
-    let values = values(all, working, i);
-    block::write_block(buffer, place, style, chosen, values)
+    let values = values(talking.places, working, i);
+    block::write_block(buffer, place, style(talking), talking.print, values)
 }

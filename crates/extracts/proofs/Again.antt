@@ -4,7 +4,7 @@ use mathlib.Core.List.{List, [], ◌∷◌}
 use mathlib.Core.Option.{Option, none, some}
 use Rattle.config.specs.Config.{judged}
 use Rattle.config.specs.declared.Config.{Config}
-use Rattle.config.specs.declared.Verdict.TheVariants.{Accepted}
+use Rattle.config.specs.Verdict.{Accepted}
 use Rattle.instrument.specs.declared.Instrument.{Instrument}
 use Rattle.looking.specs.History.{Event, History, meter_after, half}
 use Rattle.looking.specs.Kept.{Entry, keeps, add, kept}

@@ -17,7 +17,7 @@ use Rattle.alarms.specs.Alarms.{alarm_at, settings_at}
 use Rattle.register.specs.Bytes.{byte as char}
 use Rattle.config.specs.Config.{judged}
 use Rattle.config.specs.declared.Config.{Config}
-use Rattle.config.specs.declared.Verdict.TheVariants.{Accepted}
+use Rattle.config.specs.Verdict.{Accepted}
 use Rattle.meter.specs.Meter.{Step}
 use Rattle.looking.specs.History.{Event, sample, key, byte, History, meter_after, half}
 use Rattle.looking.specs.Kept.{Entry, keeps, add, kept}

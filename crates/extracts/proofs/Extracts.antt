@@ -19,7 +19,7 @@ use Rattle.alarms.specs.Alarms.{alarm_at, settings_at, setpoint_of}
 use Rattle.register.specs.Registers.{at}
 use Rattle.config.specs.Config.{judged}
 use Rattle.config.specs.declared.Config.{Config}
-use Rattle.config.specs.declared.Verdict.TheVariants.{Accepted}
+use Rattle.config.specs.Verdict.{Accepted}
 use Rattle.instrument.specs.Instrument.{alarm_of}
 use Rattle.instrument.specs.Shown.{shown_at}
 use Rattle.instrument.specs.declared.Instrument.{Instrument}

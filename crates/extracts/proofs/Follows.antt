@@ -13,7 +13,7 @@ use Rattle.alarms.specs.Alarms.{alarm_at, settings_at}
 use Rattle.alarms.proofs.Four.{each_of_four}
 use Rattle.config.specs.Config.{judged}
 use Rattle.config.specs.declared.Config.{Config}
-use Rattle.config.specs.declared.Verdict.TheVariants.{Accepted}
+use Rattle.config.specs.Verdict.{Accepted}
 use Rattle.looking.specs.History.{meter_after, half}
 use Rattle.looking.specs.Kept.{Entry, measured, pressed, told, keeps, add, kept}
 use Rattle.looking.specs.Given.{given}

@@ -3,7 +3,7 @@ use mathlib.Core.Path.{◌≡◌, refl, ap, ◌∙◌}
 use mathlib.Core.Bool.{Bool, true, false, cond, ◌||◌}
 use mathlib.Core.List.{List}
 use mathlib.Core.Option.{Option, none, some}
-use Prim.Native.Nat.{ℕ, ◌+◌, ◌-◌, ◌≤◌, ◌<◌}
+use Prim.Native.Nat.{ℕ, ◌+◌, ◌≤◌, ◌<◌}
 use native.Mathlib.Omega.{arith}
 use borrow.Author.Tests.{ne_eqb, eqb-true, eqb-false, ltb-true, ltb-false}
 use lib.Dec.{eqb, ltb}
@@ -25,8 +25,8 @@ use Rattle.config.specs.declared.Config.{Config}
 use Rattle.command.specs.Parse.{parse}
 use Rattle.command.specs.declared.Asked.{Asked}
 use Rattle.command.specs.declared.Asked.TheVariants.{Read, Print, Reset, Write, Status, BadForm}
-use Rattle.command.specs.declared.Parsed.{Parsed}
-use Rattle.command.specs.declared.Parsed.TheVariants.{NoNode, To}
+use Rattle.command.specs.Parse.{Parsed}
+use Rattle.std.specs.Prelude.{None, Some}
 use Rattle.form.specs.Understood.{Permitted}
 use Rattle.form.proofs.Permitted.{permitted}
 use Rattle.measured.specs.declared.Measured.{Measured}
@@ -176,10 +176,10 @@ module _ (c : Config) (i : Instrument) (all : length i.alarms ≡ 4) where
   carried BadForm p = untouched
 
   -- where it is for this node
-  addressed : (p : Parsed) → ((n : ℕ) (a : Asked) → p ≡ To n a → Permitted a)
+  addressed : (p : Parsed) → ((n : ℕ) (a : Asked) → p ≡ Some (n, a) → Permitted a)
       → Steps c i (through asked_of_total (asks (node_of c) p)) (λ k. through (asked_of_alarm k) (asks (node_of c) p)) (leaves (effects.addressed c.talking c.working i p))
-  addressed NoNode p = untouched
-  addressed (To n a) p = go (eqb n (node_of c)) _ refl
+  addressed None p = untouched
+  addressed (Some (n, a)) p = go (eqb n (node_of c)) _ refl
     where
       go : (t : Bool) (other : Effect) → leaves other ≡ i
           → Steps c i (through asked_of_total (cond t (some a) none)) (λ k. through (asked_of_alarm k) (cond t (some a) none)) (leaves (cond t (effects.carried c.talking c.working i a) other))

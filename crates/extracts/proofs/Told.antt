@@ -22,8 +22,8 @@ use Rattle.config.specs.declared.Config.{Config}
 use Rattle.command.specs.Parse.{parse}
 use Rattle.command.specs.declared.Asked.{Asked}
 use Rattle.command.specs.declared.Asked.TheVariants.{Read, Print, Reset, Write, Status, BadForm}
-use Rattle.command.specs.declared.Parsed.{Parsed}
-use Rattle.command.specs.declared.Parsed.TheVariants.{NoNode, To}
+use Rattle.command.specs.Parse.{Parsed}
+use Rattle.std.specs.Prelude.{None, Some}
 use Rattle.form.specs.Change.{alters, alters_at, change, VOrR, reset, write, status}
 use Rattle.instrument.specs.Instrument.{read}
 use Rattle.form.specs.Grammar.{Says}
@@ -41,11 +41,11 @@ no_some {A} {X} {x} e = absurd (let z : ◌≡◌ {A = ℕ} 0 1 = cc in omega ar
 -- ---- strings
 
 -- what is asked by a well-formed V or R to this meter
-asked_by : (node : ℕ) (p : Parsed) → alters_at node p ≡ true → (a : Asked) × (p ≡ To node a) × (alters a ≡ true)
-asked_by node NoNode e = never e
-asked_by node (To n a) e =
+asked_by : (node : ℕ) (p : Parsed) → alters_at node p ≡ true → (a : Asked) × (p ≡ Some (node, a)) × (alters a ≡ true)
+asked_by node None e = never e
+asked_by node (Some (n, a)) e =
     let b = both (eqb n node) (alters a) e in
-    (a, ap (λ (m : ℕ). To m a) (eqb-true n node b.0), b.1)
+    (a, ap (λ (m : ℕ). Some (m, a)) (eqb-true n node b.0), b.1)
 
 not_bad : (a : Asked) → alters a ≡ true → a ≢ BadForm
 not_bad a e q = never (sym (ap alters q) ∙ e)

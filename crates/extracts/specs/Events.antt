@@ -1,6 +1,6 @@
 -- What an event of a history is to the total and to each alarm: a sample with its reading, a key, or a string that ended. An event of which
 -- nothing is kept is nothing to them.
-use Rattle.std.specs.Prelude.{Bool, cond, ◌&&◌, ◌||◌, ℕ, ◌+◌, eqb, ℤ, pos, get_or}
+use Rattle.std.specs.Prelude.{Bool, cond, ◌&&◌, ◌||◌, ℕ, ◌+◌, eqb, ℤ, pos, get_or, None, Some}
 use Rattle.std.proofs.Math.Option.{Option, none, some}
 use Rattle.exact.specs.Sign.{eq_z}
 use Rattle.course.specs.Course.{Course}
@@ -13,8 +13,7 @@ use Rattle.config.specs.declared.Config.{Config}
 use Rattle.command.specs.Parse.{parse}
 use Rattle.command.specs.declared.Asked.{Asked}
 use Rattle.command.specs.declared.Asked.TheVariants.{Read, Print, Reset, Write, Status, BadForm}
-use Rattle.command.specs.declared.Parsed.{Parsed}
-use Rattle.command.specs.declared.Parsed.TheVariants.{NoNode, To}
+use Rattle.command.specs.Parse.{Parsed}
 use Rattle.instrument.specs.Instrument.{read}
 use Rattle.instrument.specs.Shown.{shown_at}
 use Rattle.instrument.specs.declared.Instrument.{Instrument}
@@ -29,8 +28,8 @@ through f (some x) = f x
 
 -- what a string asks of this meter
 abbrev pub asks : ℕ → Parsed → Option Asked
-asks node NoNode = none
-asks node (To n a) = cond (eqb n node) (some a) none
+asks node None = none
+asks node (Some (n, a)) = cond (eqb n node) (some a) none
 
 -- ---- the total
 

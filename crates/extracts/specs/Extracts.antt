@@ -12,7 +12,7 @@ use Rattle.alarms.specs.Alarms.{settings_at}
 use Rattle.register.specs.Registers.{at}
 use Rattle.config.specs.Config.{judged}
 use Rattle.config.specs.declared.Config.{Config}
-use Rattle.config.specs.declared.Verdict.TheVariants.{Accepted}
+use Rattle.config.specs.Verdict.{Accepted}
 use Rattle.instrument.specs.Shown.{shown_at}
 use Rattle.looking.specs.History.{Event, History, meter_after}
 use Rattle.looking.specs.Kept.{kept}

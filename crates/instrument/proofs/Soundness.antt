@@ -21,7 +21,7 @@ use Rattle.alarms.proofs.Four.{each_of_four}
 use Rattle.alarms.proofs.Soundness as alarms_sound
 use Rattle.config.specs.Config.{judged, rules, alarm_rule, alarm_rule_at, alarms_rule, delay_in}
 use Rattle.config.specs.declared.Config.{Config}
-use Rattle.config.specs.declared.Verdict.TheVariants.{Accepted}
+use Rattle.config.specs.Verdict.{Accepted}
 use Rattle.config.specs.declared.Working.{Working}
 use Rattle.config.proofs.Verdicts.{accepted}
 use Rattle.measured.specs.Measured as measured

@@ -11,7 +11,6 @@ use Rattle.exact.proofs.Z.{either, eq_z_true}
 use Rattle.reading.specs.declared.Reading.{Reading}
 use Rattle.extremes.specs.Extremes.{reset}
 use Rattle.extremes.specs.History.{Event, held}
-use Rattle.extremes.specs.declared.Extreme.{Extreme}
 use Rattle.extremes.specs.declared.Side.{Side}
 use Rattle.extremes.specs.declared.Side.TheVariants.{Max, Min}
 use Rattle.extremes.proofs.Takes.{takes_closest}
@@ -21,22 +20,22 @@ use Rattle.config.specs.Config.{judged}
 use Rattle.config.specs.declared.Config.{Config}
 use Rattle.config.specs.declared.Talking.{Talking}
 use Rattle.config.specs.declared.Working.{Working}
-use Rattle.config.specs.declared.Verdict.TheVariants.{Accepted}
+use Rattle.config.specs.Verdict.{Accepted}
 use Rattle.command.specs.Parse.{parse}
 use Rattle.command.specs.declared.Asked.{Asked}
 use Rattle.command.specs.declared.Asked.TheVariants.{Read, Print, Reset, Write, Status, BadForm as BadString}
-use Rattle.command.specs.declared.Parsed.{Parsed}
-use Rattle.command.specs.declared.Parsed.TheVariants.{NoNode, To}
+use Rattle.command.specs.Parse.{Parsed}
+use Rattle.std.specs.Prelude.{None, Some}
 use Rattle.instrument.specs.Instrument.{shut, reset_register, write_register, write_status}
 use Rattle.instrument.specs.declared.Instrument.{Instrument}
 use Rattle.instrument.proofs.Soundness.{chosen}
 use Rattle.effect.specs.Effect as effects
 use Rattle.effect.specs.Effect.{Effect, leaves, stands, settled, written}
 use Rattle.effect.specs.declared.Settled.{Settled}
-use Rattle.looking.specs.History.{History, meter_after, node_of}
+use Rattle.looking.specs.History.{History}
 use Rattle.looking.specs.Kept.{Entry, measured, pressed, told, kept}
 use Rattle.looking.specs.Given.{given}
-use Rattle.looking.specs.Captured.{present, is_reset, reset_to, resetting, comes, to_max, to_min, Captured}
+use Rattle.looking.specs.Captured.{present, is_reset, reset_to, resetting, to_max, to_min, Captured}
 use Rattle.looking.proofs.Looking.{looking}
 
 -- ---- what an effect leaves of reading, max and min: it resets the first where a is true, the second where b is
@@ -85,8 +84,8 @@ module _ (t : Talking) (w : Working) (i : Instrument) where
   node_left false a other e = rw e untouched
 
   told_left : (p : Parsed) → Left i (reset_to (nat_abs t.node) (at "C") p) (reset_to (nat_abs t.node) (at "D") p) (leaves (effects.addressed t w i p))
-  told_left NoNode = untouched
-  told_left (To n a) = node_left (eqb n (nat_abs t.node)) a _ refl
+  told_left None = untouched
+  told_left (Some (n, a)) = node_left (eqb n (nat_abs t.node)) a _ refl
 
   -- ---- a key
 

@@ -1,4 +1,5 @@
 -- Each event does to a sound meter what the entry that is kept of it says, and to its receiver what a byte does; its configuration stays.
+use Rattle.std.specs.Prelude.{Option as Written, None, Some}
 use mathlib.Core.Path.{◌≡◌, refl, sym, ap, ◌∙◌}
 use mathlib.Core.Bool.{Bool, true, false, cond, not, ◌&&◌}
 use mathlib.Core.List.{List}
@@ -10,7 +11,7 @@ use lib.ListN.{length}
 use Rattle.exact.proofs.Z.{never, eq_z_true}
 use Rattle.config.specs.Config.{judged}
 use Rattle.config.specs.declared.Config.{Config}
-use Rattle.config.specs.declared.Verdict.TheVariants.{Accepted}
+use Rattle.config.specs.Verdict.{Accepted}
 use Rattle.config.specs.declared.Working.{Working}
 use Rattle.config.proofs.Acceptance.{scale_accepted}
 use Rattle.segments.proofs.ByPoints.{reads}
@@ -21,12 +22,9 @@ use Rattle.receiver.specs.declared.Kind.TheVariants.{End, Drop, Part}
 use Rattle.command.specs.Parse.{parse}
 use Rattle.command.specs.declared.Asked.{Asked}
 use Rattle.command.specs.declared.Asked.TheVariants.{Read, Print, Reset, Write, Status, BadForm}
-use Rattle.command.specs.declared.Parsed.{Parsed}
-use Rattle.command.specs.declared.Parsed.TheVariants.{NoNode, To}
+use Rattle.command.specs.Parse.{Parsed}
 use Rattle.form.specs.Change.{alters, alters_at, change}
 use Rattle.line.specs.Buffer as buffers
-use Rattle.line.specs.declared.Written.{Written}
-use Rattle.line.specs.declared.Written.TheVariants.{Bytes, NoRoom}
 use Rattle.instrument.specs.declared.Instrument.{Instrument}
 use Rattle.effect.specs.Effect as effects
 use Rattle.effect.specs.Effect.{Effect, stands, leaves, settled, by_room, settle, addressed, carried}
@@ -75,8 +73,8 @@ module _ (c : Config) (i : Instrument) where
   node_idle a false e = refl
 
   parsed_idle : (p : Parsed) → alters_at (node_of c) p ≡ false → leaves (addressed c.talking c.working i p) ≡ i
-  parsed_idle NoNode e = refl
-  parsed_idle (To n a) e = node_idle a (eqb n (node_of c)) e
+  parsed_idle None e = refl
+  parsed_idle (Some (n, a)) e = node_idle a (eqb n (node_of c)) e
 
   told_does : (s : List ℕ) (t : Bool) → alters_at (node_of c) (parse s) ≡ t
       → leaves (effects.told c.talking c.working i s) ≡ carried_by c i (cond t (some (told s)) none)
@@ -91,9 +89,9 @@ module _ (c : Config) (i : Instrument) where
 
 -- ── an effect is settled with the instrument that it leaves: a reply's is the one before it, so room makes no difference ──
 
-by_room_lem : (i : Instrument) (w : Written) → (by_room i i w).instrument ≡ i
-by_room_lem i (Bytes n) = refl
-by_room_lem i NoRoom = refl
+by_room_lem : (i : Instrument) (w : Written ℕ) → (by_room i i w).instrument ≡ i
+by_room_lem i (Some n) = refl
+by_room_lem i None = refl
 
 settles : {w : Working} {i : Instrument} {Refusal : ℕ → Type 0} {e : Effect} (buffer : List ℕ) (place : ℕ) → Upon w i Refusal e
     → (settle i e buffer place).settled.instrument ≡ leaves e

@@ -5,7 +5,7 @@ use Rattle.exact.proofs.Z.{from_to}
 use Rattle.config.specs.Config.{judged}
 use Rattle.config.proofs.Acceptance.{node_in}
 use Rattle.config.specs.declared.Config.{Config}
-use Rattle.config.specs.declared.Verdict.TheVariants.{Accepted}
+use Rattle.config.specs.Verdict.{Accepted}
 use Rattle.instrument.specs.declared.Instrument.{Instrument}
 use Rattle.looking.specs.History.{node_of}
 use Rattle.looking.specs.Looking.{Alike, Looking}

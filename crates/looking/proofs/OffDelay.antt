@@ -17,12 +17,12 @@ use Rattle.alarms.specs.Alarms.{alarm_at}
 use Rattle.analog.specs.Analog as analogs
 use Rattle.config.specs.Config as configs
 use Rattle.segments.specs.Segments as segments
-use Rattle.config.specs.declared.Verdict.TheVariants.{Accepted}
+use Rattle.config.specs.Verdict.{Accepted}
 use Rattle.register.specs.Registers.{entry, index, at}
 use Rattle.receiver.specs.Receiver.{kind, store}
 use Rattle.command.specs.Parse as commands
 use Rattle.command.specs.declared.Asked.TheVariants.{Read}
-use Rattle.command.specs.declared.Parsed.TheVariants.{To}
+use Rattle.std.specs.Prelude.{Some}
 use Rattle.form.proofs.Meaning.{asked}
 use Rattle.field.specs.Field as fields
 use Rattle.line.specs.Line as lines
@@ -47,7 +47,7 @@ unfolding configs.judged configs.first_broken configs.rules configs.alarms_rule 
 accepted = refl
 
 -- the poll asks node 5 for register E
-asks : commands.parse asking ≡ To 5 (Read (at "E"))
+asks : commands.parse asking ≡ Some (5, Read (at "E"))
 unfolding commands.parse commands.first_digit commands.second_digit commands.body commands.reading commands.sole index entry
 asks = refl
 

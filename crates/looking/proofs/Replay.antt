@@ -8,7 +8,7 @@ use lib.IntN.{ℤ}
 use lib.Seq.{append_snoc}
 use Rattle.config.specs.Config.{judged}
 use Rattle.config.specs.declared.Config.{Config}
-use Rattle.config.specs.declared.Verdict.TheVariants.{Accepted}
+use Rattle.config.specs.Verdict.{Accepted}
 use Rattle.register.specs.Bytes.{byte as char}
 use Rattle.receiver.specs.Receiver.{ends}
 use Rattle.receiver.specs.Since.{since, Unbroken, more, Begun, at_power_up, behind}

@@ -10,7 +10,7 @@ use lib.ListN.{length, take, drop}
 use lib.Seq.{take-append_seam, drop_at, length-take-le}
 use Rattle.config.specs.Config.{judged}
 use Rattle.config.specs.declared.Config.{Config}
-use Rattle.config.specs.declared.Verdict.TheVariants.{Accepted}
+use Rattle.config.specs.Verdict.{Accepted}
 use Rattle.receiver.specs.Receiver.{limit, ends}
 use Rattle.receiver.specs.Since.{after, hearing}
 use Rattle.receiver.specs.declared.Receiver.{Receiver}

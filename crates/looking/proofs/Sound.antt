@@ -3,7 +3,7 @@ use mathlib.Core.Path.{◌≡◌}
 use mathlib.Core.Bool.{true}
 use Rattle.config.specs.Config.{judged}
 use Rattle.config.specs.declared.Config.{Config}
-use Rattle.config.specs.declared.Verdict.TheVariants.{Accepted}
+use Rattle.config.specs.Verdict.{Accepted}
 use Rattle.meter.specs.Door.{sound}
 use Rattle.meter.specs.Meter.{fresh}
 use Rattle.meter.specs.declared.Meter.{Meter}

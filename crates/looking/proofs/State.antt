@@ -5,8 +5,8 @@ use mathlib.Core.List.{List, [], ◌∷◌}
 use mathlib.Core.Option.{Option, none, some}
 use Rattle.config.specs.Config.{judged}
 use Rattle.config.specs.declared.Config.{Config}
-use Rattle.config.specs.declared.Verdict.{Verdict}
-use Rattle.config.specs.declared.Verdict.TheVariants.{Accepted}
+use Rattle.config.specs.Verdict.{Verdict}
+use Rattle.config.specs.Verdict.{Accepted}
 use Rattle.receiver.specs.Receiver.{heard}
 use Rattle.receiver.specs.Since.{after, hearing}
 use Rattle.receiver.proofs.Hearing.{hears}

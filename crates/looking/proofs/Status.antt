@@ -8,7 +8,7 @@ use Rattle.reading.specs.declared.Reading.TheVariants.{Number}
 use Rattle.config.specs.Config.{judged}
 use Rattle.config.specs.declared.Config.{Config}
 use Rattle.config.specs.declared.Working.{Working}
-use Rattle.config.specs.declared.Verdict.TheVariants.{Accepted}
+use Rattle.config.specs.Verdict.{Accepted}
 use Rattle.command.specs.Parse.{parse}
 use Rattle.line.specs.Line.{line}
 use Rattle.instrument.specs.Meaning.{StatusKept}

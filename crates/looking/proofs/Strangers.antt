@@ -16,7 +16,7 @@ use Rattle.config.specs.Config.{judged}
 use Rattle.config.specs.declared.Config.{Config}
 use Rattle.config.specs.declared.Talking.{Talking}
 use Rattle.config.specs.declared.Working.{Working}
-use Rattle.config.specs.declared.Verdict.TheVariants.{Accepted}
+use Rattle.config.specs.Verdict.{Accepted}
 use Rattle.receiver.specs.Receiver.{bytes, too_long, ends, drops, limit, over, kind, heard}
 use Rattle.receiver.specs.Since.{ending, hearing}
 use Rattle.receiver.specs.declared.Kind.TheVariants.{End, Drop, Part}
@@ -26,8 +26,8 @@ use Rattle.command.proofs.Addressed.{parsed_node_lem}
 use Rattle.command.specs.Parse.{parse}
 use Rattle.command.specs.declared.Asked.{Asked}
 use Rattle.command.specs.declared.Asked.TheVariants.{Read, Print, Reset, Write, Status, BadForm}
-use Rattle.command.specs.declared.Parsed.{Parsed}
-use Rattle.command.specs.declared.Parsed.TheVariants.{NoNode, To}
+use Rattle.command.specs.Parse.{Parsed}
+use Rattle.std.specs.Prelude.{None, Some}
 use Rattle.form.specs.Grammar.{Says}
 use Rattle.form.proofs.Meaning.{asked}
 use Rattle.instrument.specs.Instrument.{shut}
@@ -55,8 +55,8 @@ use Rattle.looking.proofs.State.{sound_after, heard_after, config_after}
 
 other_parsed : (m : Meter) (p : Parsed) (n : ℕ) → parsed_node p ≡ some n → n ≢ rows.node_of m
     → addressed m.config.talking m.config.working m.instrument p ≡ stands (settled OtherNode m.instrument)
-other_parsed m NoNode n e d = absurd (let z : ◌≡◌ {A = ℕ} 0 1 = cc in omega arith)
-other_parsed m (To k a) n e d = let q : k ≡ n = cc in rw (ne_eqb k (rows.node_of m) (λ r. d (sym q ∙ r)))
+other_parsed m None n e d = absurd (let z : ◌≡◌ {A = ℕ} 0 1 = cc in omega arith)
+other_parsed m (Some (k, a)) n e d = let q : k ≡ n = cc in rw (ne_eqb k (rows.node_of m) (λ r. d (sym q ∙ r)))
 
 other_ended : (m : Meter) (s : List ℕ) (n : ℕ) (t : Bool) → addresses.addressed s ≡ some n → n ≢ rows.node_of m
     → ended_as m (cond t too_long (bytes s)) ≡ stands (settled (cond t TooLong OtherNode) m.instrument)
@@ -65,7 +65,7 @@ other_ended m s n false e d = other_parsed m (parse s) n (parsed_node_lem s ∙ 
 
 -- ── what draws a reply ──
 
-found : (s : List ℕ) (n : ℕ) (a : Asked) → parse s ≡ To n a → a ≢ BadForm → Says s n a
+found : (s : List ℕ) (n : ℕ) (a : Asked) → parse s ≡ Some (n, a) → a ≢ BadForm → Says s n a
 found s n a p h = (asked s n a).1 (p, h)
 
 module _ (t : Talking) (w : Working) (i : Instrument) (buffer : List ℕ) (place : ℕ) where
@@ -83,7 +83,7 @@ module _ (t : Talking) (w : Working) (i : Instrument) (buffer : List ℕ) (place
   write_silent : (r : ℕ) (z : ℤ) → Silent (written w i r z)
   write_silent r z = either Silent (shut i.outputs.mode r) (λ e. omega arith) (λ e. omega arith)
 
-  drawn_asked : (s : List ℕ) (n : ℕ) (a : Asked) → parse s ≡ To n a → Drawn ((b : Asked) × Reads s n b) (carried t w i a)
+  drawn_asked : (s : List ℕ) (n : ℕ) (a : Asked) → parse s ≡ Some (n, a) → Drawn ((b : Asked) × Reads s n b) (carried t w i a)
   drawn_asked s n (Read r) p e = (Read r, sent.read (found s n (Read r) p (λ k. let z : ◌≡◌ {A = ℕ} 0 1 = cc in omega arith)))
   drawn_asked s n Print p e = (Print, sent.print (found s n Print p (λ k. let z : ◌≡◌ {A = ℕ} 0 1 = cc in omega arith)))
   drawn_asked s n (Reset r) p e = absurd (omega arith)
@@ -91,14 +91,14 @@ module _ (t : Talking) (w : Working) (i : Instrument) (buffer : List ℕ) (place
   drawn_asked s n (Status b) p e = absurd (omega arith)
   drawn_asked s n BadForm p e = absurd (omega arith)
 
-  drawn_node : (s : List ℕ) (n : ℕ) (a : Asked) (u : Bool) → parse s ≡ To n a → eqb n node ≡ u
+  drawn_node : (s : List ℕ) (n : ℕ) (a : Asked) (u : Bool) → parse s ≡ Some (n, a) → eqb n node ≡ u
       → Drawn ((b : Asked) × Reads s node b) (cond u (carried t w i a) (stands (settled OtherNode i)))
-  drawn_node s n a true p q e = drawn_asked s node a (p ∙ ap (λ (k : ℕ). To k a) (eqb-true n node q)) e
+  drawn_node s n a true p q e = drawn_asked s node a (p ∙ ap (λ (k : ℕ). Some (k, a)) (eqb-true n node q)) e
   drawn_node s n a false p q e = absurd (omega arith)
 
   drawn_parsed : (s : List ℕ) (p : Parsed) → parse s ≡ p → Drawn ((b : Asked) × Reads s node b) (addressed t w i p)
-  drawn_parsed s NoNode p e = absurd (omega arith)
-  drawn_parsed s (To n a) p e = drawn_node s n a (eqb n node) p refl e
+  drawn_parsed s None p e = absurd (omega arith)
+  drawn_parsed s (Some (n, a)) p e = drawn_node s n a (eqb n node) p refl e
 
   -- of keys 1 to 5 and of unknown ones none is answered by 2
   drawn_print : (reply : List ℕ) (u : Bool) → Drawn (u ≡ true) (cond u (replies reply i) (stands (settled UnknownKey i)))

@@ -1,5 +1,5 @@
 -- Max and min of a meter, over its whole history: what comes to them is the samples, each with its reading, and their own resets.
-use Rattle.std.specs.Prelude.{◌≡◌, Bool, true, false, cond, ◌&&◌, List, [], ◌∷◌, ℕ, eqb, ℤ, pos}
+use Rattle.std.specs.Prelude.{◌≡◌, Bool, false, cond, ◌&&◌, List, [], ◌∷◌, ℕ, eqb, ℤ, pos, None, Some}
 use Rattle.exact.specs.Sign.{eq_z}
 use Rattle.reading.specs.declared.Reading.{Reading}
 use Rattle.reading.specs.declared.Reading.TheVariants.{Nothing}
@@ -11,8 +11,7 @@ use Rattle.config.specs.declared.Config.{Config}
 use Rattle.command.specs.Parse.{parse}
 use Rattle.command.specs.declared.Asked.{Asked}
 use Rattle.command.specs.declared.Asked.TheVariants.{Read, Print, Reset, Write, Status, BadForm}
-use Rattle.command.specs.declared.Parsed.{Parsed}
-use Rattle.command.specs.declared.Parsed.TheVariants.{NoNode, To}
+use Rattle.command.specs.Parse.{Parsed}
 use Rattle.instrument.specs.Instrument.{read}
 use Rattle.looking.specs.History.{History, meter_after, node_of}
 use Rattle.looking.specs.Kept.{Entry, measured, pressed, told, kept}
@@ -35,8 +34,8 @@ is_reset r BadForm = false
 
 -- sent to a node
 abbrev pub reset_to : ℕ → ℕ → Parsed → Bool
-reset_to node r NoNode = false
-reset_to node r (To n a) = eqb n node && is_reset r a
+reset_to node r None = false
+reset_to node r (Some (n, a)) = eqb n node && is_reset r a
 
 -- a reset, where there is one, with the present reading
 abbrev pub resetting : Bool → Reading → List Event → List Event

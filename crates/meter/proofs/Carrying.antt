@@ -1,39 +1,67 @@
 -- Every byte is a value that is a byte, and what a loop over the slices leans on. Assumes nothing.
-use mathlib.Core.Path.{◌≡◌, refl, sym, ap, ◌∙◌}
-use mathlib.Core.List.{List, [], ◌∷◌}
-use mathlib.Core.Logic.{◌⊎◌, inl, inr}
-use Prim.Native.Nat.{ℕ, ◌+◌, ◌≤◌, ◌<◌}
-use native.Mathlib.Numerals.{add-one}
-use lib.IntN.{ℤ, pos}
-use lib.ListN.{length, drop, get_or, drop_of_length-le}
-use lib.Seq.{drop-cons}
+use Rattle.std.proofs.Common.{◌≡◌, refl, sym, ap, ◌∙◌, List, [], ◌∷◌, inl, inr, ℕ, ◌<◌, ℤ, pos, negsuc, true, false, arith, Bor, Some, None, to_z, of_z, w32}
+use Rattle.std.proofs.lemmas.List.{nil_from_length}
+use Rattle.std.specs.Int.{FitsUnsignedBits}
+use Rattle.std.specs.Iterator.Adapters.{zip_first, zip_second, zip_steps}
+use Rattle.std.specs.Slice.Iter.{iter_rest, iter_steps}
+use Rattle.std.specs.declared.iter.Zip.{Zip}
+use Rattle.std.specs.declared.slice.Iter.{Iter}
+use Rattle.std.specs.declared.option.Option.{Option}
+use Rattle.std.proofs.lemmas.Bool.Decides.{nat_tests}
 use borrow.Author.Tests.{le-leb}
-use native.Mathlib.Omega.{arith}
+use mir.Facts.{to_z-of_z}
+use mir.Val.{SFits}
 use Rattle.meter.specs.Meter.{Step}
 use Rattle.meter.specs.declared.Outcome.{Outcome}
-use Rattle.meter.specs.Slices.{EveryByte, carried_one, carried_out}
+use Rattle.meter.specs.Slices.{EveryByte, is_byte, carried_one, carried_out}
+
+-- ---- values
 
 pub every_byte : EveryByte
 every_byte b h = rw (le-leb 0 b (omega arith), le-leb b 255 (omega arith))
 
--- one entry more has been carried out
-carried_next : (o : Step) (kinds : List ℕ) (values : List ℤ) (places : List ℕ) (i : ℕ) → i < length kinds → i < length values → i < length places
-    → carried_out o (drop i kinds) (drop i values) (drop i places)
-    ≡ carried_out (carried_one o (get_or kinds i 0) (get_or values i (pos 0)) (get_or places i 0)) (drop (i + 1) kinds) (drop (i + 1) values) (drop (i + 1) places)
-unfolding carried_out
-carried_next o kinds values places i h k l = rw (drop-cons kinds i 0, drop-cons values i (pos 0), drop-cons places i 0, add-one)
+-- a value is what its bits say
+pub back : (z : ℤ) → SFits w32 z → to_z w32 (of_z w32 z) ≡ z
+back z fits = to_z-of_z fits
 
--- so what is left of the slices makes of the next outcome and buffer what it made of those before
-pub carried_on : {w : Step} (o n : Step) (kinds : List ℕ) (values : List ℤ) (places : List ℕ) (i : ℕ) → i < length kinds → i < length values → i < length places
-    → (n.outcome ≡ (carried_one o (get_or kinds i 0) (get_or values i (pos 0)) (get_or places i 0)).outcome)
-    × (n.buffer ≡ (carried_one o (get_or kinds i 0) (get_or values i (pos 0)) (get_or places i 0)).buffer)
-    → carried_out o (drop i kinds) (drop i values) (drop i places) ≡ w
-    → carried_out n (drop (i + 1) kinds) (drop (i + 1) values) (drop (i + 1) places) ≡ w
-carried_on o n kinds values places i h k l p e =
-    ap (λ (s : Step). carried_out s (drop (i + 1) kinds) (drop (i + 1) values) (drop (i + 1) places))
+-- a value that fits a byte is one, and no other is
+pub fits : (z : ℤ) → FitsUnsignedBits 8 z → is_byte z ≡ true
+fits (pos n) h = every_byte n h
+fits (negsuc n) h = absurd h
+
+above : (n : ℕ) → (n < 256 → ⊥) → is_byte (pos n) ≡ false
+above n h = grind (arith, nat_tests)
+
+pub fits_none : (z : ℤ) → (FitsUnsignedBits 8 z → ⊥) → is_byte z ≡ false
+fits_none (pos n) h = above n h
+fits_none (negsuc n) h = refl
+
+-- ---- three slices, gone through together
+
+abbrev pub Three : Type 0
+Three = Zip (Zip (Iter ℕ) (Iter ℤ)) (Iter ℕ)
+
+abbrev pub steps : Three → Option ((Bor ℕ × Bor ℤ) × Bor ℕ) → Three → Type 0
+steps = zip_steps (zip_steps iter_steps iter_steps) iter_steps
+
+-- what is left of them, carried out
+abbrev pub left : Step → Three → Step
+left o s = carried_out o (iter_rest (zip_first (zip_first s))) (iter_rest (zip_second (zip_first s))) (iter_rest (zip_second s))
+
+-- one entry more makes of the next outcome and buffer what it made of those before
+pub carried_on : {w : Step} (o n : Step) (s t : Three) (kind : Bor ℕ) (value : Bor ℤ) (place : Bor ℕ) → steps s (Some ((kind, value), place)) t
+    → (n.outcome ≡ (carried_one o kind.now value.now place.now).outcome) × (n.buffer ≡ (carried_one o kind.now value.now place.now).buffer)
+    → left o s ≡ w
+    → left n t ≡ w
+unfolding carried_out
+carried_on o n s t kind value place h p e =
+    ap (λ (m : Step). left m t)
     (ap (λ (r : Outcome). record { outcome = r; buffer = n.buffer }) p.0
-    ∙ ap (λ (b : List ℕ). record { outcome = (carried_one o (get_or kinds i 0) (get_or values i (pos 0)) (get_or places i 0)).outcome; buffer = b }) p.1)
-    ∙ sym (carried_next o kinds values places i h k l) ∙ e
+    ∙ ap (λ (b : List ℕ). record { outcome = (carried_one o kind.now value.now place.now).outcome; buffer = b }) p.1)
+    ∙ sym one ∙ e
+  where
+    one : left o s ≡ left (carried_one o kind.now value.now place.now) t
+    one = rw (h.0.0, h.0.1, h.1)
 
 -- the shortest slice is at its end
 no_values : (o : Step) (kinds places : List ℕ) → carried_out o kinds [] places ≡ o
@@ -47,9 +75,8 @@ no_places o [] values = refl
 no_places o (kind ∷ kinds) [] = refl
 no_places o (kind ∷ kinds) (value ∷ values) = refl
 
-pub carried_end : (o : Step) (kinds : List ℕ) (values : List ℤ) (places : List ℕ) (i : ℕ) → (length kinds ≤ i) ⊎ ((length values ≤ i) ⊎ (length places ≤ i))
-    → carried_out o (drop i kinds) (drop i values) (drop i places) ≡ o
+pub carried_end : (o : Step) (s t : Three) → steps s None t → left o s ≡ o
 unfolding carried_out
-carried_end o kinds values places i (inl h) = rw (drop_of_length-le kinds h)
-carried_end o kinds values places i (inr (inl h)) = rw (drop_of_length-le values h) (no_values o (drop i kinds) (drop i places))
-carried_end o kinds values places i (inr (inr h)) = rw (drop_of_length-le places h) (no_places o (drop i kinds) (drop i values))
+carried_end o s t (inl (u, inl (v, h))) = rw (nil_from_length _ h.0)
+carried_end o s t (inl (u, inr (v, h))) = rw (nil_from_length _ h.0) (no_values o _ _)
+carried_end o s t (inr (u, h)) = rw (nil_from_length _ h.0) (no_places o _ _)

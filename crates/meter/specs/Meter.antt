@@ -5,8 +5,8 @@ use Rattle.config.specs.Bench.{nothing}
 use Rattle.config.specs.declared.Config.{Config}
 use Rattle.config.specs.declared.Talking.{Talking}
 use Rattle.config.specs.declared.Working.{Working}
-use Rattle.config.specs.declared.Verdict.{Verdict}
-use Rattle.config.specs.declared.Verdict.TheVariants.{Accepted, Broken}
+use Rattle.config.specs.Verdict.{Verdict}
+use Rattle.config.specs.Verdict.{Accepted, Broken}
 use Rattle.segments.specs.Segments.{segments_of, read}
 use Rattle.segments.specs.declared.Segments.{Segments}
 use Rattle.receiver.specs.Receiver as receivers

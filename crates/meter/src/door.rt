@@ -14,12 +14,8 @@ pub fn is_started(step: i32) -> bool
 }
 
 // Whether a meter that holds these settings and this instrument has all that scaling, counting and showing lean on.
-pub fn is_sound(config: Held, instrument: Instrument) -> bool
-    ensures { result ≡ workable config instrument }
+pub fn is_sound(config: &Held, instrument: Instrument) -> bool
+    ensures { result ≡ workable config.now instrument }
 {
-    if effect::is_able(config.talking, config.working, instrument) {
-        scaling::can_scale(config.scale)
-    } else {
-        false
-    }
+    effect::is_able(config.talking, config.working, instrument) && scaling::can_scale(&config.scale)
 }

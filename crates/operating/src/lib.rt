@@ -19,32 +19,25 @@ use reading::Reading;
 pub fn powered_up(setpoints: [i32; 4]) -> Instrument
     ensures { result ≡ powered_up setpoints }
 {
-    let measured = measured::powered_up();
-    let alarms = alarms::powered_up(setpoints);
-    let outputs = outputs::powered_up();
     Instrument {
-        measured,
-        alarms,
-        outputs,
+        measured: measured::powered_up(),
+        alarms: alarms::powered_up(setpoints),
+        outputs: outputs::powered_up(),
     }
 }
 
-// A sample whose reading is known: total, max and min, alarms, analog, in this order.
+// A sample whose reading is known: total, max and min, the alarms, and the analog code and the status by the alarms that it leaves on.
 pub fn sampled(working: Working, i: Instrument, reading: Reading) -> Instrument
     requires timed { Timed working.totalizer }
     requires ranged { in_range working.totalizer i.measured.total ≡ true }
     requires differ { eq_z working.analog.low working.analog.high ≡ false }
     ensures { result ≡ sampled working i reading }
 {
-    let measured = measured::sampled(working, i.measured, reading);
-    let settings = working.alarms;
-    let before = i.alarms;
-    let alarms = alarms::all_sampled(settings, before, reading);
-    let outputs = outputs::sampled(working, i.outputs, alarms::on_bits(alarms), reading);
+    let alarms = alarms::all_sampled(working.alarms, i.alarms, reading);
     Instrument {
-        measured,
+        measured: measured::sampled(working, i.measured, reading),
         alarms,
-        outputs,
+        outputs: outputs::sampled(working, i.outputs, alarms::on_bits(alarms), reading),
     }
 }
 
@@ -52,34 +45,33 @@ pub fn sampled(working: Working, i: Instrument, reading: Reading) -> Instrument
 fn with_reset(i: Instrument, alarms: [Alarm; 4]) -> Instrument
     ensures { result ≡ with_reset i alarms }
 {
-    let mut n = i;
-    n.alarms = alarms;
-    n.outputs = outputs::alarms_reset(i.outputs, alarms::on_bits(alarms));
-    n
+    Instrument {
+        alarms,
+        outputs: outputs::alarms_reset(i.outputs, alarms::on_bits(alarms)),
+        ..i
+    }
 }
 
 // R of a register, B to H.
+#[tactic(auto, unfolding(instrument::specs::Instrument::reset_register))]
 pub fn reset_register(working: Working, i: Instrument, register: usize) -> Instrument
     requires { (at "B" ≤ register) × (register ≤ at "H") }
     ensures { result ≡ reset_register working i register }
 {
-    let before = i.alarms;
-    let mut n = i;
-    match register {
-        register::TOT => n.measured = measured::reset_total(i.measured),
-        register::MAX => n.measured = measured::reset_max(i.measured),
-        register::MIN => n.measured = measured::reset_min(i.measured),
-        _ => n = with_reset(i, alarms::reset_at(before, register - register::SP1)),
-    }
-    n
+    let measured = match register {
+        register::TOT => measured::reset_total(i.measured),
+        register::MAX => measured::reset_max(i.measured),
+        register::MIN => measured::reset_min(i.measured),
+        _ => return with_reset(i, alarms::reset_at(i.alarms, register - register::SP1)),
+    };
+    Instrument { measured, ..i }
 }
 
 // Key 5: all four alarms.
 pub fn reset_alarms(working: Working, i: Instrument) -> Instrument
     ensures { result ≡ reset_alarms working i }
 {
-    let before = i.alarms;
-    with_reset(i, alarms::all_reset(before))
+    with_reset(i, alarms::all_reset(i.alarms))
 }
 
 // Key 1 in a meter set for batch.
@@ -88,100 +80,98 @@ pub fn batched(working: Working, i: Instrument) -> Instrument
     requires ranged { in_range working.totalizer i.measured.total ≡ true }
     ensures { result ≡ batched working i }
 {
-    let mut n = i;
-    n.measured = measured::batched(working, i.measured);
-    n
+    Instrument {
+        measured: measured::batched(working, i.measured),
+        ..i
+    }
 }
 
 // Whether V is refused: the analog register is shut in automatic mode.
 pub fn is_shut(mode: Mode, register: usize) -> bool
     ensures { result ≡ shut mode register }
 {
-    (register == register::AOR) & outputs::is_automatic(mode)
+    register == register::AOR && outputs::is_automatic(mode)
 }
 
 // V of a number, to E to H or I.
+#[tactic(auto, unfolding(instrument::specs::Instrument::write_register))]
 pub fn write_register(working: Working, i: Instrument, register: usize, z: i32) -> Instrument
     requires { (at "E" ≤ register) × (register ≤ at "I") }
     ensures { result ≡ write_register working i register z }
 {
-    let before = i.alarms;
-    let mut n = i;
     if register == register::AOR {
-        n.outputs = outputs::write_code(i.outputs, z);
+        Instrument {
+            outputs: outputs::write_code(i.outputs, z),
+            ..i
+        }
     } else {
-        let alarms = alarms::written_at(before, register - register::SP1, z);
-        n.alarms = alarms;
+        Instrument {
+            alarms: alarms::written_at(i.alarms, register - register::SP1, z),
+            ..i
+        }
     }
-    n
 }
 
 // VJ: to manual mode with its outputs, or to automatic mode.
+#[tactic(auto, unfolding(instrument::specs::Instrument::write_status))]
 pub fn write_status(working: Working, i: Instrument, b: u8) -> Instrument
     requires { eq_z working.analog.low working.analog.high ≡ false }
     ensures { result ≡ write_status working i b }
 {
-    let measured = i.measured;
-    let reading = measured.reading;
-    let before = i.alarms;
-    let mut n = i;
     if alarms::bit(b, 16) {
-        n.outputs = outputs::to_manual(i.outputs, alarms::on_bits(before), b);
+        Instrument {
+            outputs: outputs::to_manual(i.outputs, alarms::on_bits(i.alarms), b),
+            ..i
+        }
     } else {
-        let alarms = alarms::reset_by_bits(b, before);
-        n.alarms = alarms;
-        n.outputs = outputs::to_automatic(working, alarms::on_bits(alarms), reading);
+        let alarms = alarms::reset_by_bits(b, i.alarms);
+        Instrument {
+            alarms,
+            outputs: outputs::to_automatic(working, alarms::on_bits(alarms), i.measured.reading),
+            ..i
+        }
     }
-    n
 }
 
 // What T shows of a register.
+#[tactic(auto, unfolding(instrument::specs::Shown::shown_at))]
 pub fn shown_at(working: Working, i: Instrument, register: usize) -> Reading
     requires timed { Timed working.totalizer }
     requires ranged { in_range working.totalizer i.measured.total ≡ true }
     requires listed { register < count }
     ensures { result ≡ shown_at working i register }
 {
-    let totalizer = working.totalizer;
-    let measured = i.measured;
-    let reading = measured.reading;
-    let alarms = i.alarms;
-    let outputs = i.outputs;
     match register {
-        register::INP => reading,
-        register::TOT => total::shown(totalizer, measured.total),
-        register::MAX => extremes::shown(measured.max),
-        register::MIN => extremes::shown(measured.min),
-        register::AOR => Reading::Number(outputs.code),
-        register::CSR => Reading::Number(outputs.status as i32),
-        _ => {
-            let k = register - register::SP1;
-            let a = alarms[k];
-            Reading::Number(a.setpoint)
-        }
+        register::INP => i.measured.reading,
+        register::TOT => total::shown(working.totalizer, i.measured.total),
+        register::MAX => extremes::shown(i.measured.max),
+        register::MIN => extremes::shown(i.measured.min),
+        register::AOR => Reading::Number(i.outputs.code),
+        register::CSR => Reading::Number(i32::from(i.outputs.status)),
+        _ => Reading::Number(i.alarms[register - register::SP1].setpoint),
     }
 }
 
 // The decimal places that it shows with.
+#[tactic(auto, unfolding(instrument::specs::Shown::places_at))]
 pub fn places_at(places: Places, register: usize) -> usize
     requires { places_rule places ≡ true }
     ensures { result ≡ places_at places register }
 {
     match register {
         register::TOT => places.total as usize,
-        register::AOR => 0,
-        register::CSR => 0,
+        register::AOR | register::CSR => 0,
         _ => places.input as usize,
     }
 }
 
 // Whether the instrument is one that can be shown and counted on.
+#[tactic(auto, unfolding(instrument::specs::Instrument::sound))]
 pub fn is_sound(working: Working, i: Instrument) -> bool
     requires { Timed working.totalizer }
     ensures { result ≡ sound working i }
 {
-    let alarms = i.alarms;
     measured::is_sound(working, i.measured)
-        & alarms::is_sound(alarms)
-        & outputs::is_sound(i.outputs)
+        && alarms::is_sound(i.alarms)
+        && outputs::is_sound(i.outputs)
 }

@@ -5,7 +5,7 @@ use mathlib.Core.List.{List}
 use Prim.Native.Nat.{ℕ}
 use lib.ListN.{length}
 use Rattle.answer.proofs.Numbered as answers
-use Rattle.config.specs.declared.Verdict.{Verdict}
+use Rattle.config.specs.Verdict.{Verdict}
 use Rattle.receiver.specs.Receiver.{kind}
 use Rattle.receiver.specs.declared.Receiver.{Receiver}
 use Rattle.receiver.proofs.Hearing.{wide_taken}

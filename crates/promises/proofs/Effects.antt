@@ -20,8 +20,8 @@ use Rattle.receiver.specs.Receiver.{over}
 use Rattle.command.specs.Parse.{parse}
 use Rattle.command.specs.declared.Asked.{Asked}
 use Rattle.command.specs.declared.Asked.TheVariants.{Read, Print, Reset, Write, Status, BadForm as BadString}
-use Rattle.command.specs.declared.Parsed.{Parsed}
-use Rattle.command.specs.declared.Parsed.TheVariants.{NoNode, To}
+use Rattle.command.specs.Parse.{Parsed}
+use Rattle.std.specs.Prelude.{None, Some}
 use Rattle.form.specs.Understood.{Permitted}
 use Rattle.form.proofs.Understood.{understood}
 use Rattle.instrument.specs.Instrument as instruments
@@ -77,8 +77,8 @@ module _ (t : Talking) (w : Working) (i : Instrument) where
   carried_upon BadString h = refused BadForm (inl (omega arith, omega arith))
 
   pub addressed_upon : (s : List ℕ) (p : Parsed) → parse s ≡ p → ByString (addressed t w i p)
-  addressed_upon s NoNode e = refused BadForm (inl (omega arith, omega arith))
-  addressed_upon s (To n a) e =
+  addressed_upon s None e = refused BadForm (inl (omega arith, omega arith))
+  addressed_upon s (Some (n, a)) e =
       either ByString (eqb n (nat_abs t.node)) (carried_upon a (understood.permitted s n a e).1) (refused OtherNode (inl (omega arith, omega arith)))
 
 pub key_upon : (m : Meter) (k : ℤ) → Upon m.config.working m.instrument KeyRefusal (key_effect m k)

@@ -11,8 +11,8 @@ use lib.IntN.{ℤ, pos, negsuc}
 use lib.ListN.{length}
 use Rattle.config.specs.Config.{judged}
 use Rattle.config.specs.declared.Config.{Config}
-use Rattle.config.specs.declared.Verdict.{Verdict}
-use Rattle.config.specs.declared.Verdict.TheVariants.{Accepted, Broken}
+use Rattle.config.specs.Verdict.{Verdict}
+use Rattle.config.specs.Verdict.{Accepted, Broken}
 use Rattle.receiver.specs.Receiver as receivers
 use Rattle.receiver.specs.Receiver.{Heard, bytes, kind, heard}
 use Rattle.receiver.specs.declared.Kind.{Kind}
@@ -22,8 +22,8 @@ use Rattle.command.specs.Addressed.{parsed_node}
 use Rattle.command.proofs.Addressed.{parsed_node_lem}
 use Rattle.command.specs.declared.Asked.{Asked}
 use Rattle.command.specs.declared.Asked.TheVariants.{Read, Print, Reset, Write, Status, BadForm}
-use Rattle.command.specs.declared.Parsed.{Parsed}
-use Rattle.command.specs.declared.Parsed.TheVariants.{NoNode, To}
+use Rattle.command.specs.Parse.{Parsed}
+use Rattle.std.specs.Prelude.{None, Some}
 use Rattle.form.specs.Grammar.{Says}
 use Rattle.form.proofs.Understood.{understood}
 use Rattle.instrument.specs.Instrument.{shut}
@@ -87,14 +87,14 @@ answers (byte m b buffer place) f = byte_answers f
 -- ---- every call falls under a row
 
 -- one of a kind of rows
-abbrev Some : (ℕ → Type 0) → Type 0
-Some Of = (n : ℕ) × Of n
+abbrev Any : (ℕ → Type 0) → Type 0
+Any Of = (n : ℕ) × Of n
 
-config_covers : (c : Config) (v : Verdict) → judged c ≡ v → Some (OfConfig c)
+config_covers : (c : Config) (v : Verdict) → judged c ≡ v → Any (OfConfig c)
 config_covers c Accepted e = (0, rows.accepted e)
 config_covers c (Broken rule) e = (11, rows.refused rule e)
 
-sample_covers : (m : Meter) (t : Bool) → sound m ≡ t → Some (OfSample m)
+sample_covers : (m : Meter) (t : Bool) → sound m ≡ t → Any (OfSample m)
 sample_covers m true e = (0, rows.sampled e)
 sample_covers m false e = (12, rows.not_sampled e)
 
@@ -107,11 +107,11 @@ module _ (m : Meter) (buffer : List ℕ) (place : ℕ) where
   by_room_lem : (reply : List ℕ) {P : Type 0} → (Room reply buffer place → P) → (Cramped reply buffer place → P) → P
   by_room_lem reply with_it without = roomy reply buffer place with_it without (leb (place + length reply) (length buffer)) refl
 
-  batch_covers : sound m ≡ true → (t : Bool) → m.config.working.totalizer.batch ≡ t → Some (OfKey m buffer place (pos 1))
+  batch_covers : sound m ≡ true → (t : Bool) → m.config.working.totalizer.batch ≡ t → Any (OfKey m buffer place (pos 1))
   batch_covers ok true e = (0, rows.batch ok e)
   batch_covers ok false e = (10, rows.no_batch ok e)
 
-  pressed_covers : (k : ℤ) → sound m ≡ true → Some (OfKey m buffer place k)
+  pressed_covers : (k : ℤ) → sound m ≡ true → Any (OfKey m buffer place k)
   pressed_covers (negsuc n) ok = (10, rows.unknown (negsuc n) ok (λ p low high e. let z : ◌≡◌ {A = ℕ} 0 1 = cc in omega arith))
   pressed_covers (pos zero) ok = (10, rows.unknown (pos 0) ok (λ p low high e. let z : 0 ≡ p = cc in omega arith))
   pressed_covers (pos (suc zero)) ok = batch_covers ok m.config.working.totalizer.batch refl
@@ -123,24 +123,24 @@ module _ (m : Meter) (buffer : List ℕ) (place : ℕ) where
   pressed_covers (pos (suc (suc (suc (suc (suc (suc (suc n)))))))) ok =
       (10, rows.unknown (pos (suc (suc (suc (suc (suc (suc (suc n)))))))) ok (λ p low high e. let z : suc (suc (suc (suc (suc (suc (suc n)))))) ≡ p = cc in omega arith))
 
-  key_covers : (k : ℤ) (t : Bool) → sound m ≡ t → Some (OfKey m buffer place k)
+  key_covers : (k : ℤ) (t : Bool) → sound m ≡ t → Any (OfKey m buffer place k)
   key_covers k true e = pressed_covers k e
   key_covers k false e = (12, rows.not_pressed k e)
 
   module _ (b : ℕ) where
     abbrev Byte : Type 0
-    Byte = Some (OfByte m b buffer place)
+    Byte = Any (OfByte m b buffer place)
 
     module _ (s : List ℕ) (e : Ends m b s) where
       written_covers : (r : ℕ) (z : ℤ) → Says s (node_of m) (Write r z) → (t : Bool) → shut m.instrument.outputs.mode r ≡ t → Byte
       written_covers r z x true c = (8, rows.in_automatic s r z e x c)
       written_covers r z x false c = (0, rows.written s r z e x c)
 
-      says : (a : Asked) → parse s ≡ To (node_of m) a → a ≢ BadForm → Says s (node_of m) a
+      says : (a : Asked) → parse s ≡ Some (node_of m, a) → a ≢ BadForm → Says s (node_of m) a
       says a p good = (understood.asked s (node_of m) a).1 (p, good)
 
       -- what is asked of this meter
-      asked_covers : (a : Asked) → parse s ≡ To (node_of m) a → Byte
+      asked_covers : (a : Asked) → parse s ≡ Some (node_of m, a) → Byte
       asked_covers (Read r) p =
           let x = says (Read r) p (λ k. let z : ◌≡◌ {A = ℕ} 0 1 = cc in omega arith) in
           by_room_lem (line_of m r) (λ room. (2, rows.read s r e x room)) (λ cramped. (9, rows.read_cramped s r e x cramped))
@@ -154,13 +154,13 @@ module _ (m : Meter) (buffer : List ℕ) (place : ℕ) where
       asked_covers BadForm p = let f = (understood.bad_form s (node_of m)).0 p in (4, rows.bad_form s e f.0 f.1)
 
       -- of which node
-      node_covers : (n : ℕ) (a : Asked) → parse s ≡ To n a → (t : Bool) → eqb n (node_of m) ≡ t → Byte
-      node_covers n a p true q = asked_covers a (p ∙ ap (λ (k : ℕ). To k a) (eqb-true n (node_of m) q))
+      node_covers : (n : ℕ) (a : Asked) → parse s ≡ Some (n, a) → (t : Bool) → eqb n (node_of m) ≡ t → Byte
+      node_covers n a p true q = asked_covers a (p ∙ ap (λ (k : ℕ). Some (k, a)) (eqb-true n (node_of m) q))
       node_covers n a p false q = (3, rows.other_node s n e ((understood.addressed_to s n).0 (sym (parsed_node_lem s) ∙ ap parsed_node p)) (eqb-false n (node_of m) q))
 
       parsed_covers : (p : Parsed) → parse s ≡ p → Byte
-      parsed_covers NoNode p = (4, rows.no_digit s e ((understood.no_node s).0 p))
-      parsed_covers (To n a) p = node_covers n a p (eqb n (node_of m)) refl
+      parsed_covers None p = (4, rows.no_digit s e ((understood.no_node s).0 p))
+      parsed_covers (Some (n, a)) p = node_covers n a p (eqb n (node_of m)) refl
 
     heard_covers : sound m ≡ true → kind b ≡ End → (h : Heard) → heard m.receiver ≡ h → Byte
     heard_covers ok end (bytes s) h = parsed_covers s (record { started = ok; ends = end; string = h }) (parse s) refl
@@ -175,7 +175,7 @@ module _ (m : Meter) (buffer : List ℕ) (place : ℕ) where
     byte_covers true e = kind_covers (kind b) refl e
     byte_covers false e = (12, rows.not_received e)
 
-covers : (k : Call) → Some (Falls k)
+covers : (k : Call) → Any (Falls k)
 covers (power_up c) = config_covers c (judged c) refl
 covers (sample m x) = sample_covers m (sound m) refl
 covers (key m k buffer place) = key_covers m buffer place k (sound m) refl

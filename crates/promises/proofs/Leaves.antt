@@ -11,8 +11,8 @@ use Rattle.answer.specs.Answer.{number}
 use Rattle.answer.specs.declared.Answer.TheVariants.{Done, Stored, Dropped, Refused, NotStarted}
 use Rattle.config.specs.Config.{judged}
 use Rattle.config.specs.declared.Config.{Config}
-use Rattle.config.specs.declared.Verdict.{Verdict}
-use Rattle.config.specs.declared.Verdict.TheVariants.{Accepted, Broken}
+use Rattle.config.specs.Verdict.{Verdict}
+use Rattle.config.specs.Verdict.{Accepted, Broken}
 use Rattle.receiver.specs.Receiver.{bytes, kind, taken, next, heard}
 use Rattle.receiver.specs.declared.Kind.{Kind}
 use Rattle.receiver.specs.declared.Kind.TheVariants.{End, Drop, Part}

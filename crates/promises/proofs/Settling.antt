@@ -1,4 +1,5 @@
 -- What settling makes of an effect, whatever buffer is lent. Assumes nothing.
+use Rattle.std.specs.Prelude.{Option, None, Some}
 use mathlib.Core.Path.{◌≡◌, refl, sym, ap, subst, ◌∙◌}
 use mathlib.Core.Bool.{Bool, true, false}
 use mathlib.Core.List.{List, ◌++◌, append_assoc}
@@ -14,8 +15,6 @@ use Rattle.answer.specs.declared.Answer.{Answer}
 use Rattle.answer.specs.declared.Answer.TheVariants.{Done, Replied, NoRoom}
 use Rattle.config.specs.declared.Working.{Working}
 use Rattle.line.specs.Buffer as buffers
-use Rattle.line.specs.declared.Written.{Written}
-use Rattle.line.specs.declared.Written.TheVariants.{Bytes, NoRoom as NoPlace}
 use Rattle.line.proofs.Over.{laid_length}
 use Rattle.instrument.specs.declared.Instrument.{Instrument}
 use Rattle.effect.specs.Effect.{Effect, replies, settled, by_room, settle}
@@ -86,9 +85,9 @@ module _ (d : List ℕ) (place : ℕ) where
 -- ---- an effect upon i
 
 -- what holds of a reply that was written, and of one without room, holds of a reply
-by_room_lem : (P : Settled → Type 0) (i : Instrument) (w : Written) → ((n : ℕ) → P (settled (Replied n) i)) → P (settled NoRoom i) → P (by_room i i w)
-by_room_lem P i (Bytes n) p q = p n
-by_room_lem P i NoPlace p q = q
+by_room_lem : (P : Settled → Type 0) (i : Instrument) (w : Option ℕ) → ((n : ℕ) → P (settled (Replied n) i)) → P (settled NoRoom i) → P (by_room i i w)
+by_room_lem P i (Some n) p q = p n
+by_room_lem P i None p q = q
 
 module _ {w : Working} {i : Instrument} {Refusal : ℕ → Type 0} (d : List ℕ) (place : ℕ) where
   -- it is answered by 0, by a refusal, or as a reply by 2 or 9

@@ -8,7 +8,7 @@ use Rattle.exact.proofs.Z.{both, either}
 use Rattle.config.specs.Config.{judged}
 use Rattle.config.specs.declared.Config.{Config}
 use Rattle.config.specs.declared.Working.{Working}
-use Rattle.config.specs.declared.Verdict.TheVariants.{Accepted}
+use Rattle.config.specs.Verdict.{Accepted}
 use Rattle.config.proofs.Acceptance.{node_in, places_in, scale_accepted, time_base_in, analog_differs}
 use Rattle.receiver.specs.Receiver as receivers
 use Rattle.receiver.specs.declared.Receiver.{Receiver}

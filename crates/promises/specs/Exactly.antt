@@ -3,7 +3,7 @@
 use Rattle.std.specs.Prelude.{◌≡◌, true, false, List, ◌≢◌, ◌↔◌, ℕ, ◌≤◌, ℤ, pos}
 use Rattle.config.specs.Config.{judged}
 use Rattle.config.specs.declared.Config.{Config}
-use Rattle.config.specs.declared.Verdict.TheVariants.{Accepted, Broken}
+use Rattle.config.specs.Verdict.{Accepted, Broken}
 use Rattle.receiver.specs.Receiver as receivers
 use Rattle.receiver.specs.Receiver.{kind, heard}
 use Rattle.receiver.specs.declared.Kind.TheVariants.{End, Drop, Part}

@@ -4,7 +4,7 @@ use Rattle.register.specs.Registers.{at}
 use Rattle.answer.specs.Answer as answers
 use Rattle.config.specs.Config as configs
 use Rattle.config.specs.declared.Config.{Config}
-use Rattle.config.specs.declared.Verdict.TheVariants.{Accepted, Broken}
+use Rattle.config.specs.Verdict.{Accepted, Broken}
 use Rattle.receiver.specs.Receiver as receivers
 use Rattle.receiver.specs.Receiver.{Heard, bytes, too_long, limit}
 use Rattle.receiver.specs.declared.Kind.TheVariants.{End, Drop, Part}
