@@ -1,68 +1,89 @@
 -- What a line says, over plain values: the tests on the way say which case holds, and what is kept of a line is enough to judge it. Assumes nothing.
-use mathlib.Core.Path.{◌≡◌, refl}
-use mathlib.Core.Bool.{Bool, true, false, cond, ◌&&◌}
-use mathlib.Core.List.{List}
-use Prim.Native.Nat.{ℕ, ◌-◌, ◌≤◌, ◌<◌}
-use native.Mathlib.Omega.{arith}
-use lib.Dec.{leb, eqb}
-use lib.ListN.{length, take, drop, get_or}
+use Rattle.std.proofs.Common.{◌≡◌, refl, Bool, true, false, cond, ◌&&◌, List, ℕ, ℤ, ◌-◌, ◌<◌, length, take, drop, get_or, leb, eqb, arith, Option, Some, None}
+use lib.ListN.{length-drop}
 use borrow.Author.Tests.{le-leb, lt-leb, eq-eqb, ne_eqb, leb-true, leb-false}
-use Rattle.text.specs.Line.{kept_bytes, bytes, long, heard, kept}
+use Rattle.text.specs.Line.{kept_bytes, Heard, bytes, long, kept}
+use Rattle.text.specs.Number.{number_of}
 use Rattle.text.proofs.Laws.{rest}
-use Rattle.text.proofs.Lines.{heard_is, heard_long}
-use Rattle.bench_line.specs.Grammar.{said_of, parsed, judged, Payload}
-use Rattle.bench_line.specs.declared.grammar.Parsed.TheVariants.{Bytes, Bad}
+use Rattle.bench_line.specs.Grammar.{Asked, chars, sample_of, key_of, said_of, parsed, judged, Payload}
 
-pub bytes_bad : Bytes ≡ Bad → ⊥
-bytes_bad e = let z : ◌≡◌ {A = ℕ} 0 1 = cc in omega arith
+-- ---- a letter
 
-pub short_bad : (l : List ℕ) → length l < 3 → Bad ≡ parsed l
-unfolding parsed
-short_bad l h = rw (lt-leb 3 (length l) h)
+module _ (k : ℕ) (s : List ℕ) where
+  pub said_sample : k ≡ 83 → sample_of (number_of s) ≡ said_of k s
+  unfolding said_of
+  said_sample e = rw e
 
-pub long_bad : (l : List ℕ) → 82 < length l → Bad ≡ parsed l
-unfolding parsed
-long_bad l h = rw (le-leb 3 (length l) (omega arith), lt-leb (length l) 82 h)
+  pub said_key : k ≡ 75 → key_of (number_of s) ≡ said_of k s
+  unfolding said_of
+  said_key e = rw e
 
-module _ (l : List ℕ) (h : 3 ≤ length l) (k : length l ≤ 82) where
-  pub unspaced_bad : (get_or l 1 0 ≡ 32 → ⊥) → Bad ≡ parsed l
+  pub said_chars : k ≡ 67 → Some (chars s) ≡ said_of k s
+  unfolding said_of
+  said_chars e = rw e
+
+  pub said_other : (k ≡ 83 → ⊥) → (k ≡ 75 → ⊥) → (k ≡ 67 → ⊥) → None ≡ said_of k s
+  unfolding said_of
+  said_other p q r = rw (ne_eqb k 83 p, ne_eqb k 75 q, ne_eqb k 67 r)
+
+-- ---- a line
+
+module _ (l : List ℕ) where
+  pub sized_none : (leb 3 (length l) && leb (length l) 82) ≡ false → None ≡ parsed l
   unfolding parsed
-  unspaced_bad e = rw (le-leb 3 (length l) h, le-leb (length l) 82 k, ne_eqb (get_or l 1 0) 32 e)
+  sized_none e = rw e
 
-  pub said_is : get_or l 1 0 ≡ 32 → said_of (get_or l 0 0) (take (length l - 2) (drop 2 l)) ≡ parsed l
-  unfolding parsed
-  said_is e = rw (rest 2 l, le-leb 3 (length l) h, le-leb (length l) 82 k, eq-eqb (get_or l 1 0) 32 e)
+  module _ (e : (leb 3 (length l) && leb (length l) 82) ≡ true) where
+    pub unspaced_none : (get_or l 1 0 ≡ 32 → ⊥) → None ≡ parsed l
+    unfolding parsed
+    unspaced_none n = rw (e, ne_eqb (get_or l 1 0) 32 n)
 
-pub judged_long : (line : List ℕ) (len : ℕ) → kept_bytes < len → Bad ≡ judged (heard line len)
-unfolding judged
-judged_long line len h = rw (heard_long line len h)
+    pub said_is : get_or l 1 0 ≡ 32 → said_of (get_or l 0 0) (take (length l - 2) (drop 2 l)) ≡ parsed l
+    unfolding parsed
+    said_is n = rw (rest 2 l, e, eq-eqb (get_or l 1 0) 32 n)
 
-pub judged_is : (line : List ℕ) (len : ℕ) → len ≤ kept_bytes → parsed (take len line) ≡ judged (heard line len)
-unfolding judged
-judged_is line len h = rw (heard_is line len h)
+-- ---- the bytes of a C line are 1 to 80
 
-bytes_size : (l : List ℕ) → Bytes ≡ parsed l → (2 < length l) × (length l ≤ 82)
-unfolding parsed
-bytes_size l e = go (leb 3 (length l)) (leb (length l) 82) refl refl e
+abbrev only : List ℕ → Option Asked → Type 0
+only t r = (s : List ℕ) → r ≡ Some (chars s) → s ≡ t
+
+said_only : (k : ℕ) (t : List ℕ) → only t (said_of k t)
+unfolding said_of
+said_only k t = go (eqb k 83) (eqb k 75) (eqb k 67) (number_of t)
   where
-    go : (a b : Bool) → leb 3 (length l) ≡ a → leb (length l) 82 ≡ b
-        → Bytes ≡ cond ((a && b) && eqb (get_or l 1 0) 32) (said_of (get_or l 0 0) (drop 2 l)) Bad
-        → (2 < length l) × (length l ≤ 82)
-    go true true p q e = (omega (arith, leb-true 3 (length l) p), leb-true (length l) 82 q)
-    go true false p q e = absurd (bytes_bad e)
-    go false b p q e = absurd (bytes_bad e)
+    go : (a b c : Bool) (n : Option ℤ) → only t (cond a (sample_of n) (cond b (key_of n) (cond c (Some (chars t)) None)))
+    go true b c (Some v) s e = cc
+    go true b c None s e = cc
+    go false true c (Some v) s e = cc
+    go false true c None s e = cc
+    go false false true n s e = cc
+    go false false false n s e = cc
 
--- the array has all the bytes that are kept, so the line has as many as the count says
-pub payload : (line : List ℕ) (len : ℕ) → length (take len line) ≡ len → Bytes ≡ parsed (take len line) → Payload len
-payload line len h e =
-    let k = bytes_size (take len line) e in
-    record { some = omega arith; all = omega arith }
+pub payload : (h : Heard) (s : List ℕ) → judged h ≡ Some (chars s) → Payload s
+unfolding judged parsed
+payload long s e = cc
+payload (bytes l) s e = go (leb 3 (length l)) (leb (length l) 82) (eqb (get_or l 1 0) 32) refl refl e
+  where
+    go : (a b t : Bool) → leb 3 (length l) ≡ a → leb (length l) 82 ≡ b
+        → cond ((a && b) && t) (said_of (get_or l 0 0) (drop 2 l)) None ≡ Some (chars s) → Payload s
+    go true true true p q e =
+        let is : s ≡ drop 2 l = said_only (get_or l 0 0) (drop 2 l) s e in
+        let low = leb-true 3 (length l) p in
+        let high = leb-true (length l) 82 q in
+        rw is (record { some = omega (arith, low, length-drop 2 l); all = omega (arith, high, length-drop 2 l) })
+    go true true false p q e = cc
+    go true false t p q e = cc
+    go false b t p q e = cc
 
 -- a line that is too long for its array is bad anyway
+long_none : (l : List ℕ) → 82 < length l → None ≡ parsed l
+unfolding parsed
+long_none l h = rw (le-leb 3 (length l) (omega arith), lt-leb (length l) 82 h)
+
 pub judged_kept : (l : List ℕ) → judged (kept l) ≡ parsed l
 unfolding judged kept
 judged_kept l = go (leb (length l) kept_bytes) refl
   where
     go : (t : Bool) → leb (length l) kept_bytes ≡ t → judged (cond t (bytes l) long) ≡ parsed l
     go true p = refl
-    go false p = long_bad l (omega (arith, leb-false (length l) kept_bytes p))
+    go false p = long_none l (omega (arith, leb-false (length l) kept_bytes p))

@@ -1,2 +1,3 @@
 pub mod Grammar
 pub mod Show
+pub mod Asked

@@ -1,11 +1,9 @@
 -- What is printed of a line, piece by piece.
-use Rattle.std.specs.Prelude.{ℕ, cond, List, [], ◌∷◌, ◌++◌, leb, eqb, length, take}
+use Rattle.std.specs.Prelude.{ℕ, cond, List, [], ◌∷◌, ◌++◌, leb, eqb, length, take, Option, Some, None}
 use Rattle.answer.specs.Answer.{number, value}
 use Rattle.answer.specs.declared.Answer.{Answer}
 use Rattle.register.specs.Bytes.{ascii}
 use Rattle.text.specs.Numeral.{numeral}
-use Rattle.bench_line.specs.declared.Said.{Said}
-use Rattle.bench_line.specs.declared.Said.TheVariants.{Answered, Unknown}
 
 -- a number and an LF
 abbrev pub number_line : ℕ → List (List ℕ)
@@ -19,7 +17,7 @@ reply_pieces n reply = cond (leb n (length reply)) (take n reply ∷ []) []
 unfoldable pub answer_pieces : Answer → List ℕ → List (List ℕ)
 answer_pieces a reply = number_line (number a) ++ cond (eqb (number a) 2) (reply_pieces (value a) reply) []
 
--- `?` and LF for any other line
-unfoldable pub shown_of : Said → List ℕ → List (List ℕ)
-shown_of (Answered a) reply = answer_pieces a reply
-shown_of Unknown reply = (ascii "?" ++ (10 ∷ [])) ∷ []
+-- the answer of a line's last event, and `?` and LF for any other line
+unfoldable pub shown_of : Option Answer → List ℕ → List (List ℕ)
+shown_of (Some a) reply = answer_pieces a reply
+shown_of None reply = (ascii "?" ++ (10 ∷ [])) ∷ []

@@ -10,47 +10,39 @@ ghost use Rattle.bench_line.specs.Show.{number_line, reply_pieces, answer_pieces
 use answer::Answer;
 use text::output::Out;
 
-// What a line is told: the answer of its last event, or that it is no line of this program.
-#[derive(Clone, Copy)]
-pub enum Said {
-    Answered(Answer),
-    Unknown,
-}
-
 // Puts a number and an LF.
-fn put_number(buf: &mut [u8], o: Out, n: u64) -> Out
-    ensures { waiting result.at buf.new ≡ puts (waiting o.at buf.old) (number_line n) }
+fn put_number(out: &mut Out, n: u64)
+    ensures { waiting out.new ≡ puts (waiting out.old) (number_line n) }
 {
-    let p = text::output::put_natural(&mut *buf, o, n);
-    text::output::put(&mut *buf, p, b"\n")
+    out.put_natural(n);
+    out.put(b"\n");
 }
 
 // Puts the first n bytes of the reply, of which there are as many.
-fn put_reply(buf: &mut [u8], o: Out, reply: &[u8], n: usize) -> Out
-    ensures { waiting result.at buf.new ≡ puts (waiting o.at buf.old) (reply_pieces n reply.now) }
+fn put_reply(out: &mut Out, reply: &[u8], n: usize)
+    ensures { waiting out.new ≡ puts (waiting out.old) (reply_pieces n reply.now) }
 {
     if n <= reply.len() {
-        return text::output::put(buf, o, &reply[0..n]);
+        out.put(&reply[..n]);
     }
-    o
 }
 
-fn put_answer(buf: &mut [u8], o: Out, reply: &[u8], a: Answer) -> Out
-    ensures { waiting result.at buf.new ≡ puts (waiting o.at buf.old) (answer_pieces a reply.now) }
+fn put_answer(out: &mut Out, reply: &[u8], a: Answer)
+    ensures { waiting out.new ≡ puts (waiting out.old) (answer_pieces a reply.now) }
 {
     let number = answer::number(a);
-    let p = put_number(&mut *buf, o, number);
+    put_number(out, number);
     if number == 2 {
-        return put_reply(&mut *buf, p, reply, answer::value(a) as usize);
+        put_reply(out, reply, answer::value(a) as usize);
     }
-    p
 }
 
-pub fn put_said(buf: &mut [u8], o: Out, reply: &[u8], said: Said) -> Out
-    ensures { waiting result.at buf.new ≡ puts (waiting o.at buf.old) (shown_of said reply.now) }
+// The answer of a line's last event, or that it is no line of this program.
+pub fn put_said(out: &mut Out, reply: &[u8], said: Option<Answer>)
+    ensures { waiting out.new ≡ puts (waiting out.old) (shown_of said reply.now) }
 {
     match said {
-        Said::Answered(a) => put_answer(buf, o, reply, a),
-        Said::Unknown => text::output::put(buf, o, b"?\n"),
+        Some(a) => put_answer(out, reply, a),
+        None => out.put(b"?\n"),
     }
 }

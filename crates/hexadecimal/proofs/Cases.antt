@@ -4,10 +4,9 @@ use mathlib.Core.List.{List, [], ◌∷◌, ◌++◌, map, flatten}
 use Prim.Native.Nat.{ℕ, ◌-◌}
 use Prim.Native.String.{String}
 use lib.ListN.{length, replicate}
+use Rattle.std.specs.Prelude.{Option, Some, None}
 use Rattle.register.specs.Bytes.{byte, ascii}
 use Rattle.hexadecimal.specs.Hex.{hex, is_digit, digit_of, is_size, all_digits, is_text, bytes_of, hexed, over, filled}
-use Rattle.hexadecimal.specs.declared.Hexed.{Hexed}
-use Rattle.hexadecimal.specs.declared.Hexed.TheVariants.{Bytes, Not}
 
 pub record Printed : Type 0 where
   pub bytes : List ℕ
@@ -29,14 +28,14 @@ printed = refl
 -- a text, the answer to it, and the array that it is read to, in which 64 ones stood
 pub record Read : Type 0 where
   pub text : List ℕ
-  pub answer : Hexed
+  pub answer : Option ℕ
   pub array : List ℕ
 
 abbrev says : List ℕ → List ℕ → Read
-says s l = record { text = s; answer = Bytes (length l); array = l ++ replicate (64 - length l) 1 }
+says s l = record { text = s; answer = Some (length l); array = l ++ replicate (64 - length l) 1 }
 
 abbrev not : List ℕ → Read
-not s = record { text = s; answer = Not; array = replicate 64 1 }
+not s = record { text = s; answer = None; array = replicate 64 1 }
 
 abbrev pub read_rows : List Read
 read_rows =

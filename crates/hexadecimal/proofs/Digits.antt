@@ -1,5 +1,5 @@
 -- Digits and texts of them, over plain values. Assumes nothing.
-use mathlib.Core.Path.{◌≡◌, refl, sym, ap, ◌∙◌}
+use mathlib.Core.Path.{◌≡◌, refl, sym, ap, ap₂, ◌∙◌}
 use mathlib.Core.Bool.{Bool, true, false, ◌||◌, ◌&&◌}
 use mathlib.Core.List.{List, [], ◌∷◌}
 use mathlib.Core.Logic.{◌⊎◌, ⊎_elim, inl, inr}
@@ -8,13 +8,15 @@ use native.Mathlib.Numerals.{add-one}
 use native.Mathlib.Omega.{arith}
 use borrow.Author.Tests.{eq-eqb, ne_eqb, eqb-true}
 use lib.Dec.{eqb}
-use lib.ListN.{length, take, drop, get_or, set}
-use lib.Seq.{drop-cons, drop-length, length-take-le, take-length, paste-suc}
+use lib.ListN.{length, take, get_or, set}
+use lib.Seq.{length-take-le, take-length, paste-suc}
+use Rattle.std.specs.Char.{is_ascii_hexdigit}
+use Rattle.std.specs.List.{list_all}
+use Rattle.std.specs.Prelude.{Some, None}
 use Rattle.exact.proofs.Z.{both}
 use Rattle.register.specs.Bytes.{byte, within}
 use Rattle.register.proofs.Ranges.{range, in_range, below_range, above_range}
 use Rattle.hexadecimal.specs.Hex.{is_decimal, is_lower, is_upper, is_digit, digit_of, most, is_size, all_digits, is_text, bytes_of, over, hexed, filled}
-use Rattle.hexadecimal.specs.declared.Hexed.TheVariants.{Bytes, Not}
 
 -- ---- a digit lies in one of the three ranges, and is worth less than 16
 
@@ -62,13 +64,18 @@ module _ (b : ℕ) where
 
 -- ---- every one of them
 
-pub digits_at : (s : List ℕ) (i : ℕ) → i < length s → all_digits (drop i s) ≡ (is_digit (get_or s i 0) && all_digits (drop (i + 1) s))
-unfolding all_digits
-digits_at s i h = rw (add-one i) (ap all_digits (drop-cons s i 0 h))
+-- the library's test of a byte has the ranges in another order
+swapped : (a b c : Bool) → ((a || b) || c) ≡ ((a || c) || b)
+swapped true b c = refl
+swapped false true true = refl
+swapped false true false = refl
+swapped false false true = refl
+swapped false false false = refl
 
-pub digits_out : (s : List ℕ) (i : ℕ) → i ≡ length s → all_digits (drop i s) ≡ true
-unfolding all_digits
-digits_out s i e = ap (λ (k : ℕ). all_digits (drop k s)) e ∙ ap all_digits (drop-length s)
+pub digits_are : (s : List ℕ) → list_all is_ascii_hexdigit s ≡ all_digits s
+unfolding all_digits is_digit
+digits_are [] = refl
+digits_are (b ∷ s) = ap₂ ◌&&◌ (swapped (is_decimal b) (is_upper b) (is_lower b)) (digits_are s)
 
 pub digit_at : (s : List ℕ) (i : ℕ) → all_digits s ≡ true → i < length s → is_digit (get_or s i 0) ≡ true
 unfolding all_digits
@@ -148,11 +155,11 @@ module _ (d s : List ℕ) (n : ℕ) where
 
 -- ---- what is read
 
-pub read_not : (d s : List ℕ) → is_text s ≡ false → (Not ≡ hexed s) × (d ≡ filled d s)
+pub read_not : (d s : List ℕ) → is_text s ≡ false → (None ≡ hexed s) × (d ≡ filled d s)
 unfolding hexed filled
 read_not d s e = (rw e, rw e)
 
 pub read_is : (d s : List ℕ) {n : ℕ} {l : List ℕ} → is_text s ≡ true → n ≡ length (bytes_of s) → l ≡ over d (bytes_of s)
-    → (Bytes n ≡ hexed s) × (l ≡ filled d s)
+    → (Some n ≡ hexed s) × (l ≡ filled d s)
 unfolding hexed filled
-read_is d s e f g = (rw e (ap Bytes f), rw e g)
+read_is d s e f g = (rw e (ap Some f), rw e g)

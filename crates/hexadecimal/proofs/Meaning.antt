@@ -7,13 +7,13 @@ use native.Mathlib.Omega.{arith}
 use borrow.Author.Tests.{ltb-true, ltb-false, lt-ltb, le-ltb, eq-eqb, eqb-true}
 use lib.Dec.{ltb}
 use lib.ListN.{length}
+use Rattle.std.specs.Prelude.{Some, None}
 use Rattle.io.specs.Digits.{hex_digit_ascii}
 use Rattle.exact.proofs.Z.{never, both}
 use Rattle.register.specs.Bytes.{byte}
 use Rattle.register.proofs.Ranges.{range, in_range, below_range, above_range}
 use Rattle.hexadecimal.specs.Hex.{hex_byte, hex, is_lower, is_upper, is_digit, digit_of, most, is_size, all_digits, is_text, bytes_of, hexed}
 use Rattle.hexadecimal.specs.Meaning.{AreBytes, lowered, ReadBack, PrintedBack, Answered, InEitherCase}
-use Rattle.hexadecimal.specs.declared.Hexed.TheVariants.{Bytes, Not}
 use Rattle.hexadecimal.proofs.Digits.{worth_decimal, worth_lower, worth_upper, by_range, below_16, text_sized, text_digits, text_few, text_even, bytes_count}
 
 -- ---- a digit
@@ -142,16 +142,13 @@ printed_back (a ∷ b ∷ s) e =
 
 -- ---- an answer of so many bytes
 
-no_bytes : {X : Type 0} {n : ℕ} → Not ≡ Bytes n → X
-no_bytes e = let z : ◌≡◌ {A = ℕ} 0 1 = cc in absurd (omega arith)
-
-pub hexed_only : (s : List ℕ) (n : ℕ) → hexed s ≡ Bytes n → Answered s n
+pub hexed_only : (s : List ℕ) (n : ℕ) → hexed s ≡ Some n → Answered s n
 unfolding hexed
 hexed_only s n e = go (is_text s) refl e
   where
-    go : (t : Bool) → is_text s ≡ t → cond t (Bytes (length (bytes_of s))) Not ≡ Bytes n → Answered s n
+    go : (t : Bool) → is_text s ≡ t → cond t (Some (length (bytes_of s))) None ≡ Some n → Answered s n
     go true q e = record { text = q; count = cc }
-    go false q e = no_bytes e
+    go false q e = absurd (cc)
 
 -- ---- in either case
 

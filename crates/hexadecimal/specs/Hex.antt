@@ -1,9 +1,7 @@
 -- Bytes in hexadecimal: the pieces that are put, and what a text says.
-use Rattle.std.specs.Prelude.{ℕ, ◌+◌, ◌-◌, ◌*◌, ◌/◌, ◌%◌, Bool, true, cond, ◌&&◌, ◌||◌, List, [], ◌∷◌, ◌++◌, map, eqb, length, drop, get_or}
+use Rattle.std.specs.Prelude.{ℕ, ◌+◌, ◌-◌, ◌*◌, ◌/◌, ◌%◌, Option, Some, None, Bool, true, cond, ◌&&◌, ◌||◌, List, [], ◌∷◌, ◌++◌, map, eqb, length, drop, get_or}
 use Rattle.io.specs.Digits.{hex_digit_ascii}
 use Rattle.register.specs.Bytes.{byte, ascii, within}
-use Rattle.hexadecimal.specs.declared.Hexed.{Hexed}
-use Rattle.hexadecimal.specs.declared.Hexed.TheVariants.{Bytes, Not}
 
 -- ---- what is put
 
@@ -57,8 +55,8 @@ bytes_of (a ∷ []) = []
 bytes_of (a ∷ b ∷ s) = (digit_of a * 16 + digit_of b) ∷ bytes_of s
 
 -- how many bytes a text says, where it is hexadecimal
-unfoldable pub hexed : List ℕ → Hexed
-hexed s = cond (is_text s) (Bytes (length (bytes_of s))) Not
+unfoldable pub hexed : List ℕ → Option ℕ
+hexed s = cond (is_text s) (Some (length (bytes_of s))) None
 
 -- bytes over the front of d
 unfoldable pub over : List ℕ → List ℕ → List ℕ

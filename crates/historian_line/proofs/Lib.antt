@@ -1,5 +1,6 @@
-pub mod Records
-pub mod Words
-pub mod Texts
-pub mod Prints
 pub mod Cases
+pub mod Ended
+pub mod Prints
+pub mod Records
+pub mod Texts
+pub mod Words

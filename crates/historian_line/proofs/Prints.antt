@@ -18,13 +18,12 @@ use Rattle.filed.proofs.Bytes.{kind_most}
 use Rattle.filed.proofs.Exact.{back}
 use Rattle.text.specs.Line.{before, after, has}
 use Rattle.text.specs.Number.{natural_of, number_of, digits, value, signed_of}
-use Rattle.text.specs.declared.Number.TheVariants as number
+use Rattle.std.specs.Prelude.{Some, None}
 use Rattle.hexadecimal.specs.Hex.{hex, hex_byte, most}
 use Rattle.hexadecimal.specs.Meaning.{AreBytes}
 use Rattle.hexadecimal.proofs.Meaning.{read_back}
 use Rattle.historian_line.specs.Line.{ended, is_mark, reading_named, record_line, asked_line, write_line, fields_line, taken_line, read_line, line_shown}
 use Rattle.historian_line.specs.Meaning.{behind, Prints}
-use Rattle.historian_line.specs.declared.Named.TheVariants as named
 
 -- ---- two words
 
@@ -57,17 +56,14 @@ mark_is a b (x ∷ y ∷ []) e =
     ap₂ (λ (u v : ℕ). u ∷ v ∷ []) (eqb-true x a t.0) (eqb-true y b t.1)
 mark_is a b (x ∷ y ∷ z ∷ w) e = absurd (omega (arith, eqb-true (length (x ∷ y ∷ z ∷ w)) 2 (both _ _ e).0))
 
-no_mark : (a b : ℕ) (w : List ℕ) (z : ℤ) → number_of (a ∷ b ∷ []) ≡ number.Not → number_of w ≡ number.Is z → is_mark a b w ≡ false
+no_mark : (a b : ℕ) (w : List ℕ) (z : ℤ) → number_of (a ∷ b ∷ []) ≡ None → number_of w ≡ Some z → is_mark a b w ≡ false
 no_mark a b w z none e = go (is_mark a b w) refl
   where
-    never_both : number.Not ≡ number.Is z → ⊥
-    never_both n = let z' : ◌≡◌ {A = ℕ} 0 1 = cc in omega arith
-
     go : (t : Bool) → is_mark a b w ≡ t → is_mark a b w ≡ false
     go false m = m
-    go true m = absurd (never_both (sym none ∙ ap number_of (sym (mark_is a b w m)) ∙ e))
+    go true m = let both = sym none ∙ ap number_of (sym (mark_is a b w m)) ∙ e in absurd (cc)
 
-numbers : (w : List ℕ) (z : ℤ) → number_of w ≡ number.Is z → reading_named w ≡ named.Is (Rattle.reading.specs.declared.Reading.TheVariants.Number z)
+numbers : (w : List ℕ) (z : ℤ) → number_of w ≡ Some z → reading_named w ≡ Some (Rattle.reading.specs.declared.Reading.TheVariants.Number z)
 unfolding reading_named
 numbers w z e =
     rw (
@@ -77,13 +73,13 @@ numbers w z e =
       e,
     )
   where
-    none_o : number_of (ascii "OL") ≡ number.Not
+    none_o : number_of (ascii "OL") ≡ None
     none_o = unfold number_of natural_of digits value signed_of in refl
 
-    none_u : number_of (ascii "UL") ≡ number.Not
+    none_u : number_of (ascii "UL") ≡ None
     none_u = unfold number_of natural_of digits value signed_of in refl
 
-    none_dash : number_of (ascii "--") ≡ number.Not
+    none_dash : number_of (ascii "--") ≡ None
     none_dash = unfold number_of natural_of digits value signed_of in refl
 
 -- ---- bytes

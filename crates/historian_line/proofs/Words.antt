@@ -70,10 +70,8 @@ module _ (s : List ℕ) (end : ℕ) (e : end ≡ word_end 0 s) where
       go false h32 = h32
       go true h32 = absurd (omega (arith, count, there 32 s h32))
 
-  pub first_word : take (end - 0) (drop 0 s) ≡ before 32 s
-  first_word =
-      let n : end - 0 ≡ length (before 32 s) = omega (arith, count) in
-      ap (λ (k : ℕ). take k s) n ∙ front 32 s
+  pub first_word : take end s ≡ before 32 s
+  first_word = ap (λ (k : ℕ). take k s) count ∙ front 32 s
 
   pub second_word : end < length s → take (length s - (end + 1)) (drop (end + 1) s) ≡ after 32 s
   second_word h =

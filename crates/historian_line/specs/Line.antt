@@ -1,20 +1,17 @@
 -- What a line of the historian's program asks, and what is printed of it, piece by piece: `W reading places` prints the record that is written of
 -- a reading, `R hex` what bytes are taken for, and any other line a question mark.
-use Rattle.std.specs.Prelude.{ℕ, ◌/◌, ◌%◌, ◌^◌, Bool, cond, ◌&&◌, List, [], ◌∷◌, ◌++◌, leb, eqb, ℤ, length, drop, get_or}
+use Rattle.std.specs.Prelude.{ℕ, ◌/◌, ◌%◌, ◌^◌, Option, Some, None, Result, Ok, Err, Bool, cond, ◌&&◌, List, [], ◌∷◌, ◌++◌, leb, eqb, ℤ, length, drop, get_or}
 use Rattle.reading.specs.Reading.{displayable}
 use Rattle.reading.specs.declared.Reading.{Reading}
 use Rattle.reading.specs.declared.Reading.TheVariants.{Nothing, Under, Number, Over}
 use Rattle.register.specs.Bytes.{byte, ascii}
 use Rattle.filed.specs.Filed.{refusal_number, kind_of, bits_of, in_places, filed, taken_of}
-use Rattle.filed.specs.declared.Taken.{Taken}
-use Rattle.filed.specs.declared.Taken.TheVariants as taken
+use Rattle.filed.specs.declared.Record.{Record}
+use Rattle.filed.specs.declared.Refusal.{Refusal}
 use Rattle.text.specs.Line.{Heard, bytes, long, before, after, has, kept}
 use Rattle.text.specs.Number.{number_of}
 use Rattle.text.specs.Numeral.{numeral}
-use Rattle.text.specs.declared.Number.TheVariants as number
 use Rattle.hexadecimal.specs.Hex.{hex, is_text, bytes_of}
-use Rattle.historian_line.specs.declared.Named.{Named}
-use Rattle.historian_line.specs.declared.Named.TheVariants as named
 
 abbrev pub ended : List (List ℕ)
 ended = (10 ∷ []) ∷ []
@@ -29,26 +26,26 @@ unknown = (ascii "?" ++ (10 ∷ [])) ∷ []
 abbrev pub is_mark : ℕ → ℕ → List ℕ → Bool
 is_mark first second word = eqb (length word) 2 && (eqb (get_or word 0 0) first && eqb (get_or word 1 0) second)
 
-abbrev pub number_named : Rattle.text.specs.declared.Number.Number → Named
-number_named (number.Is v) = named.Is (Number v)
-number_named number.Not = named.Not
+abbrev pub number_named : Option ℤ → Option Reading
+number_named (Some v) = Some (Number v)
+number_named None = None
 
 -- the reading that a word names: `OL`, `UL`, `--` or a number
-unfoldable pub reading_named : List ℕ → Named
+unfoldable pub reading_named : List ℕ → Option Reading
 reading_named word =
-    cond (is_mark (byte "O") (byte "L") word) (named.Is Over)
-    (cond (is_mark (byte "U") (byte "L") word) (named.Is Under)
-    (cond (is_mark (byte "-") (byte "-") word) (named.Is Nothing)
+    cond (is_mark (byte "O") (byte "L") word) (Some Over)
+    (cond (is_mark (byte "U") (byte "L") word) (Some Under)
+    (cond (is_mark (byte "-") (byte "-") word) (Some Nothing)
     (number_named (number_of word))))
 
 -- the record, where the reading can be displayed and the places are 0 to 4
 unfoldable pub record_line : Reading → ℤ → List (List ℕ)
 record_line shown places = cond (in_places places && displayable shown) (hex (filed places shown) ++ ended) unknown
 
-abbrev pub asked_line : Named → Rattle.text.specs.declared.Number.Number → List (List ℕ)
-asked_line (named.Is shown) (number.Is places) = record_line shown places
-asked_line (named.Is shown) number.Not = unknown
-asked_line named.Not places = unknown
+abbrev pub asked_line : Option Reading → Option ℤ → List (List ℕ)
+asked_line (Some shown) (Some places) = record_line shown places
+asked_line (Some shown) None = unknown
+asked_line None places = unknown
 
 -- two words, with one space between them
 unfoldable pub write_line : List ℕ → List (List ℕ)
@@ -71,9 +68,9 @@ unfoldable pub fields_line : ℕ → ℕ → ℕ → List (List ℕ)
 fields_line kind places b = kind_pieces kind places ++ bits_pieces b
 
 -- what the record says, or the refusal's number
-unfoldable pub taken_line : Taken → List (List ℕ)
-taken_line (taken.Record x) = fields_line (kind_of x.datum) x.places (bits_of x.datum)
-taken_line (taken.Refused why) = (numeral (refusal_number why) ∷ []) ++ ended
+unfoldable pub taken_line : Result Record Refusal → List (List ℕ)
+taken_line (Ok x) = fields_line (kind_of x.datum) x.places (bits_of x.datum)
+taken_line (Err why) = (numeral (refusal_number why) ∷ []) ++ ended
 
 unfoldable pub read_line : List ℕ → List (List ℕ)
 read_line s = cond (is_text s) (taken_line (taken_of (bytes_of s))) unknown

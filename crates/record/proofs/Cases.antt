@@ -3,6 +3,7 @@
 use mathlib.Core.Path.{◌≡◌, refl}
 use mathlib.Core.List.{List, [], ◌∷◌, ◌++◌, map}
 use Prim.Native.Nat.{ℕ}
+use Rattle.std.specs.Prelude.{Option, Some, None}
 use lib.IntN.{pos}
 use lib.ListN.{length}
 use Rattle.exact.specs.Sign.{minus}
@@ -14,14 +15,14 @@ use Rattle.config.specs.declared.Source.TheVariants.{Platinum}
 use Rattle.record.specs.Record.{words, same, one_word, two_words, kinds, settings_of, configuration_said, short_said, event_of, read_of}
 use Rattle.record.specs.Configuration.{in_turn, config_of}
 use Rattle.record.specs.declared.Event.{Event}
-use Rattle.record.specs.declared.Event.TheVariants.{Configuration, Sample, Key, Byte, Bad}
+use Rattle.record.specs.declared.Event.TheVariants.{Configuration, Sample, Key, Byte}
 
 pub record Row : Type 0 where
   pub line : List ℕ
-  pub says : Event
+  pub says : Option Event
   pub read : ℕ
 
-abbrev row : List ℕ → Event → ℕ → Row
+abbrev row : List ℕ → Option Event → ℕ → Row
 row l e n = record { line = l; says = e; read = n }
 
 -- document 01's bench meter, as a line without the sensor, and without the last word before it
@@ -41,57 +42,57 @@ two_line =
 
 abbrev pub rows : List Row
 rows =
-    row (ascii "S 437") (Sample (pos 437)) 0
-    ∷ row (ascii "S -1") (Sample (minus 1)) 0
-    ∷ row (ascii "S 0000000437") (Sample (pos 437)) 0
-    ∷ row (ascii "S 00000000437") Bad 0
-    ∷ row (ascii "S 2147483647") (Sample (pos 2147483647)) 0
-    ∷ row (ascii "S 2147483648") Bad 0
-    ∷ row (ascii "S -2147483648") (Sample (minus 2147483648)) 0
-    ∷ row (ascii "S +1") Bad 0
-    ∷ row (ascii "S 1 2") Bad 0
-    ∷ row (ascii "S  1") Bad 0
-    ∷ row (ascii "S 1 ") Bad 0
-    ∷ row (ascii "S") Bad 0
-    ∷ row (ascii "S ") Bad 0
-    ∷ row (ascii " S 1") Bad 0
-    ∷ row (ascii "s 1") Bad 0
-    ∷ row (ascii "SS 1") Bad 0
-    ∷ row (ascii "S 1" ++ (13 ∷ [])) Bad 0
-    ∷ row (ascii "K 6 0") (Key (pos 6) 0) 0
-    ∷ row (ascii "K -6 18446744073709551615") (Key (minus 6) 18446744073709551615) 0
-    ∷ row (ascii "K 6 18446744073709551616") Bad 0
-    ∷ row (ascii "K 6") Bad 0
-    ∷ row (ascii "K 6 -1") Bad 0
-    ∷ row (ascii "K 6 0 0") Bad 0
-    ∷ row (ascii "K  6 0") Bad 0
-    ∷ row (ascii "K 6  0") Bad 0
-    ∷ row (ascii "B 255 3") (Byte 255 3) 0
-    ∷ row (ascii "B 065 0") (Byte 65 0) 0
-    ∷ row (ascii "B 256 0") Bad 0
-    ∷ row (ascii "B 0065 0") Bad 0
-    ∷ row (ascii "B -1 0") Bad 0
-    ∷ row (ascii "B 65 0 ") Bad 0
-    ∷ row (ascii "") Bad 0
-    ∷ row (ascii "X 1") Bad 0
-    ∷ row (ascii "CFG") Bad 0
-    ∷ row (ascii "CFG ") Bad 0
-    ∷ row (ascii "CFG 1") Bad 1
-    ∷ row (ascii "CFG 1 2  3") Bad 2
-    ∷ row (ascii "CFG 1 x 3") Bad 1
-    ∷ row (ascii "CFG 1" ++ (13 ∷ [])) Bad 0
-    ∷ row short_line Bad 72
-    ∷ row bench_line Configuration 74
-    ∷ row (bench_line ++ ascii " 0") Configuration 74
-    ∷ row (bench_line ++ ascii " 1") Configuration 74
-    ∷ row (bench_line ++ ascii " 2") Bad 73
-    ∷ row (bench_line ++ ascii " 01") Bad 73
-    ∷ row (bench_line ++ ascii " ") Bad 73
-    ∷ row (bench_line ++ ascii " 0 0") Bad 74
-    ∷ row (bench_line ++ ascii " 1 ") Bad 74
-    ∷ row (bench_line ++ ascii "1") Bad 72
-    ∷ row two_line Bad 44
-    ∷ row (two_line ++ ascii " 1") Bad 44
+    row (ascii "S 437") (Some (Sample (pos 437))) 0
+    ∷ row (ascii "S -1") (Some (Sample (minus 1))) 0
+    ∷ row (ascii "S 0000000437") (Some (Sample (pos 437))) 0
+    ∷ row (ascii "S 00000000437") None 0
+    ∷ row (ascii "S 2147483647") (Some (Sample (pos 2147483647))) 0
+    ∷ row (ascii "S 2147483648") None 0
+    ∷ row (ascii "S -2147483648") (Some (Sample (minus 2147483648))) 0
+    ∷ row (ascii "S +1") None 0
+    ∷ row (ascii "S 1 2") None 0
+    ∷ row (ascii "S  1") None 0
+    ∷ row (ascii "S 1 ") None 0
+    ∷ row (ascii "S") None 0
+    ∷ row (ascii "S ") None 0
+    ∷ row (ascii " S 1") None 0
+    ∷ row (ascii "s 1") None 0
+    ∷ row (ascii "SS 1") None 0
+    ∷ row (ascii "S 1" ++ (13 ∷ [])) None 0
+    ∷ row (ascii "K 6 0") (Some (Key (pos 6) 0)) 0
+    ∷ row (ascii "K -6 18446744073709551615") (Some (Key (minus 6) 18446744073709551615)) 0
+    ∷ row (ascii "K 6 18446744073709551616") None 0
+    ∷ row (ascii "K 6") None 0
+    ∷ row (ascii "K 6 -1") None 0
+    ∷ row (ascii "K 6 0 0") None 0
+    ∷ row (ascii "K  6 0") None 0
+    ∷ row (ascii "K 6  0") None 0
+    ∷ row (ascii "B 255 3") (Some (Byte 255 3)) 0
+    ∷ row (ascii "B 065 0") (Some (Byte 65 0)) 0
+    ∷ row (ascii "B 256 0") None 0
+    ∷ row (ascii "B 0065 0") None 0
+    ∷ row (ascii "B -1 0") None 0
+    ∷ row (ascii "B 65 0 ") None 0
+    ∷ row (ascii "") None 0
+    ∷ row (ascii "X 1") None 0
+    ∷ row (ascii "CFG") None 0
+    ∷ row (ascii "CFG ") None 0
+    ∷ row (ascii "CFG 1") None 1
+    ∷ row (ascii "CFG 1 2  3") None 2
+    ∷ row (ascii "CFG 1 x 3") None 1
+    ∷ row (ascii "CFG 1" ++ (13 ∷ [])) None 0
+    ∷ row short_line None 72
+    ∷ row bench_line (Some Configuration) 74
+    ∷ row (bench_line ++ ascii " 0") (Some Configuration) 74
+    ∷ row (bench_line ++ ascii " 1") (Some Configuration) 74
+    ∷ row (bench_line ++ ascii " 2") None 73
+    ∷ row (bench_line ++ ascii " 01") None 73
+    ∷ row (bench_line ++ ascii " ") None 73
+    ∷ row (bench_line ++ ascii " 0 0") None 74
+    ∷ row (bench_line ++ ascii " 1 ") None 74
+    ∷ row (bench_line ++ ascii "1") None 72
+    ∷ row two_line None 44
+    ∷ row (two_line ++ ascii " 1") None 44
     ∷ []
 
 pub cases : map (λ (r : Row). row r.line (event_of r.line) (length (read_of r.line))) rows ≡ rows

@@ -6,6 +6,7 @@ use mathlib.Core.List.{List, [], ◌∷◌, ◌++◌}
 use Prim.Native.Nat.{ℕ, suc, ◌+◌, ◌<◌}
 use native.Mathlib.Omega.{arith}
 use lib.Dec.{leb, eqb}
+use Rattle.std.specs.Prelude.{Option, Some, None}
 use lib.IntN.{ℤ}
 use lib.ListN.{length, set, length-set}
 use borrow.Author.Tests.{eqb-true}
@@ -13,13 +14,9 @@ use Rattle.exact.proofs.Z.{never, both, turned_true}
 use Rattle.register.specs.Bytes.{ascii}
 use Rattle.text.specs.Line.{Heard, bytes, long, has}
 use Rattle.text.specs.Number.{number_of, natural_of}
-use Rattle.text.specs.declared.Natural.{Natural}
-use Rattle.text.specs.declared.Natural.TheVariants as natural
-use Rattle.text.specs.declared.Number.{Number}
-use Rattle.text.specs.declared.Number.TheVariants as number
 use Rattle.record.specs.Record.{word_count, grown, led, words, joined, spaceless, Words, same, sample_of, key_of, byte_of, place_of, one_word, two_words, completed, configuration_read, configuration_said, short_said, is_cfg, said_by, event_of, read_by, read_of, stored, event_heard, read_heard}
 use Rattle.record.specs.declared.Event.{Event}
-use Rattle.record.specs.declared.Event.TheVariants.{Configuration, Sample, Key, Byte, Bad}
+use Rattle.record.specs.declared.Event.TheVariants.{Configuration, Sample, Key, Byte}
 use Rattle.record.proofs.Words.{words_one, words_some}
 
 -- ---- words
@@ -93,41 +90,41 @@ stored_all (x ∷ old) (v ∷ read) h = stored_behind 0 v old read ∙ ap (λ (l
 
 -- ---- a configuration has all its settings
 
-is_whole : Event → Bool
-is_whole Configuration = true
-is_whole (Sample n) = false
-is_whole (Key n place) = false
-is_whole (Byte b place) = false
-is_whole Bad = false
+is_whole : Option Event → Bool
+is_whole (Some Configuration) = true
+is_whole (Some (Sample n)) = false
+is_whole (Some (Key n place)) = false
+is_whole (Some (Byte b place)) = false
+is_whole None = false
 
-sample_part : (n : Number) → is_whole (sample_of n) ≡ false
+sample_part : (n : Option ℤ) → is_whole (sample_of n) ≡ false
 unfolding is_whole
-sample_part (number.Is v) = refl
-sample_part number.Not = refl
+sample_part (Some v) = refl
+sample_part None = refl
 
-key_part : (n : Number) (place : Natural) → is_whole (key_of n place) ≡ false
+key_part : (n : Option ℤ) (place : Option ℕ) → is_whole (key_of n place) ≡ false
 unfolding is_whole
-key_part (number.Is v) (natural.Is p) = refl
-key_part (number.Is v) natural.Not = refl
-key_part number.Not place = refl
+key_part (Some v) (Some p) = refl
+key_part (Some v) None = refl
+key_part None place = refl
 
-byte_part : (b place : Natural) → is_whole (byte_of b place) ≡ false
+byte_part : (b place : Option ℕ) → is_whole (byte_of b place) ≡ false
 unfolding is_whole
-byte_part (natural.Is v) (natural.Is p) = go (leb v 255)
+byte_part (Some v) (Some p) = go (leb v 255)
   where
-    go : (t : Bool) → is_whole (cond t (Byte v p) Bad) ≡ false
+    go : (t : Bool) → is_whole (cond t (Some (Byte v p)) None) ≡ false
     go true = refl
     go false = refl
-byte_part (natural.Is v) natural.Not = refl
-byte_part natural.Not place = refl
+byte_part (Some v) None = refl
+byte_part None place = refl
 
-one_part : (f : List ℕ → Event) → ((a : List ℕ) → is_whole (f a) ≡ false) → (ws : List (List ℕ)) → is_whole (one_word f ws) ≡ false
+one_part : (f : List ℕ → Option Event) → ((a : List ℕ) → is_whole (f a) ≡ false) → (ws : List (List ℕ)) → is_whole (one_word f ws) ≡ false
 unfolding one_word is_whole
 one_part f h [] = refl
 one_part f h (a ∷ []) = h a
 one_part f h (a ∷ b ∷ ws) = refl
 
-two_part : (f : List ℕ → List ℕ → Event) → ((a b : List ℕ) → is_whole (f a b) ≡ false) → (ws : List (List ℕ)) → is_whole (two_words f ws) ≡ false
+two_part : (f : List ℕ → List ℕ → Option Event) → ((a b : List ℕ) → is_whole (f a b) ≡ false) → (ws : List (List ℕ)) → is_whole (two_words f ws) ≡ false
 unfolding two_words is_whole
 two_part f h [] = refl
 two_part f h (a ∷ []) = refl
@@ -141,32 +138,32 @@ short_part k ws = go (same k (ascii "S")) (same k (ascii "K")) (same k (ascii "B
     go : (s t u : Bool)
         → is_whole (cond s (one_word (λ (n : List ℕ). sample_of (number_of n)) ws)
         (cond t (two_words (λ (n place : List ℕ). key_of (number_of n) (place_of place)) ws)
-        (cond u (two_words (λ (b place : List ℕ). byte_of (natural_of 3 b) (place_of place)) ws) Bad))) ≡ false
+        (cond u (two_words (λ (b place : List ℕ). byte_of (natural_of 3 b) (place_of place)) ws) None))) ≡ false
     go true t u = one_part (λ (n : List ℕ). sample_of (number_of n)) (λ a. sample_part (number_of a)) ws
     go false true u = two_part (λ (n place : List ℕ). key_of (number_of n) (place_of place)) (λ a b. key_part (number_of a) (place_of b)) ws
     go false false true = two_part (λ (b place : List ℕ). byte_of (natural_of 3 b) (place_of place)) (λ a b. byte_part (natural_of 3 a) (place_of b)) ws
     go false false false = refl
 
-whole_read : (l : List ℕ) → Configuration ≡ event_of l → length (read_of l) ≡ word_count
+whole_read : (l : List ℕ) → Some Configuration ≡ event_of l → length (read_of l) ≡ word_count
 unfolding event_of read_of configuration_said is_whole
 whole_read l e = go (words l) e
   where
-    said : (t u : Bool) → Configuration ≡ cond (t && u) Configuration Bad → u ≡ true
+    said : (t u : Bool) → Some Configuration ≡ cond (t && u) (Some Configuration) None → u ≡ true
     said true true e = refl
     said true false e = sym (ap is_whole e)
     said false u e = never (sym (ap is_whole e))
 
-    by : (t : Bool) (k : List ℕ) (ws : List (List ℕ)) → Configuration ≡ cond t (configuration_said ws) (short_said k ws)
+    by : (t : Bool) (k : List ℕ) (ws : List (List ℕ)) → Some Configuration ≡ cond t (configuration_said ws) (short_said k ws)
         → length (cond t (configuration_read ws) []) ≡ word_count
     by true k ws e = eqb-true (length (configuration_read ws)) word_count (said (eqb (length (completed ws)) word_count) (eqb (length (configuration_read ws)) word_count) e)
     by false k ws e = never (sym (ap is_whole e ∙ short_part k ws))
 
-    go : (ws : List (List ℕ)) → Configuration ≡ said_by ws → length (read_by ws) ≡ word_count
+    go : (ws : List (List ℕ)) → Some Configuration ≡ said_by ws → length (read_by ws) ≡ word_count
     go [] e = never (sym (ap is_whole e))
     go (k ∷ ws) e = by (is_cfg k) k ws e
 
 -- in an array of as many, they are what it then holds
-pub configured : (h : Heard) (old : List ℤ) → Configuration ≡ event_heard h → length old ≡ word_count → stored 0 old (read_heard h) ≡ read_heard h
+pub configured : (h : Heard) (old : List ℤ) → Some Configuration ≡ event_heard h → length old ≡ word_count → stored 0 old (read_heard h) ≡ read_heard h
 unfolding event_heard read_heard is_whole
 configured (bytes l) old e n = stored_all old (read_of l) (whole_read l e ∙ sym n)
 configured long old e n = never (sym (ap is_whole e))

@@ -6,14 +6,13 @@ use mathlib.Core.List.{List, [], ◌∷◌, ◌++◌, append-nil}
 use Prim.Native.Nat.{ℕ, suc, ◌<◌}
 use native.Mathlib.Omega.{arith}
 use lib.Dec.{eqb}
+use Rattle.std.specs.Prelude.{Option, Some, None}
 use lib.IntN.{ℤ, pos}
 use lib.ListN.{length, get_or, length-append}
 use Rattle.exact.specs.Sign.{eq_z}
 use Rattle.exact.proofs.Z.{eq_z_true}
 use Rattle.register.specs.Bytes.{ascii}
 use Rattle.text.specs.Number.{digits, value, natural_of, signed_of, number_of, flag_of}
-use Rattle.text.specs.declared.Number.{Number}
-use Rattle.text.specs.declared.Number.TheVariants as number
 use Rattle.config.specs.declared.Source.TheVariants.{Points, Platinum}
 use Rattle.record.specs.Record.{word_count, sensor_at, led, words, same, kinds, setting_of, onto, settings_of, completed, configuration_said, event_of, read_of}
 use Rattle.record.specs.Configuration.{number, source_of}
@@ -40,9 +39,9 @@ zero_behind (true ∷ ks) [] = refl
 zero_behind (false ∷ ks) [] = refl
 zero_behind (k ∷ ks) (w ∷ ws) = go (setting_of k w) (settings_of ks (ws ++ (ascii "0" ∷ []))) (zero_behind ks ws)
   where
-    go : (x : Number) (read : List ℤ) → get_or read (length ws) (pos 0) ≡ pos 0 → get_or (onto x read) (suc (length ws)) (pos 0) ≡ pos 0
-    go (number.Is v) read e = e
-    go number.Not read e = refl
+    go : (x : Option ℤ) (read : List ℤ) → get_or read (length ws) (pos 0) ≡ pos 0 → get_or (onto x read) (suc (length ws)) (pos 0) ≡ pos 0
+    go (Some v) read e = e
+    go None read e = refl
 
 module _ (l : List ℕ) (ws : List (List ℕ)) (cfg : words l ≡ ascii "CFG" ∷ ws) (count : length ws ≡ sensor_at) where
   with_zero : words (l ++ ascii " 0") ≡ ascii "CFG" ∷ (ws ++ (ascii "0" ∷ []))

@@ -1,39 +1,55 @@
 -- Settings, over plain values: which words are a yes or no, and how a setting is read out of the array. Assumes nothing.
 use mathlib.Core.Path.{◌≡◌, refl, sym, ap, ap₂, ◌∙◌}
-use mathlib.Core.Bool.{Bool, false, cond}
-use mathlib.Core.List.{List, [], ◌∷◌, ◌++◌}
-use Prim.Native.Nat.{ℕ, zero, suc, ◌+◌, ◌-◌, ◌*◌, ◌%◌, ◌^◌, ◌≤◌, ◌<◌}
+use mathlib.Core.Bool.{Bool, true, false, cond, ◌&&◌}
+use mathlib.Core.List.{List, [], ◌∷◌}
+use Prim.Native.Nat.{ℕ, zero, suc, ◌+◌, ◌-◌, ◌*◌, ◌%◌, ◌^◌, ◌<◌}
 use native.Mathlib.Omega.{arith}
 use native.Mathlib.Numerals.{add-one}
 use lib.Dec.{leb, ltb, eqb}
 use lib.IntN.{ℤ, pos}
-use lib.ListN.{length, take, get_or, set}
-use lib.Seq.{take-suc-set}
+use lib.ListN.{length, drop, get_or}
+use lib.Seq.{drop-cons, drop-length}
 use lib.Signed.{mag}
+use denote.Param.Members.{Mut, Called}
+use Rattle.std.specs.Array.{IsFromFnResultFrom}
 use mir.Syntax.{w32}
 use mir.Val.{of_z}
-use borrow.Author.Tests.{lt-ltb, le-ltb}
 use Rattle.exact.specs.Sign.{eq_z}
 use Rattle.exact.proofs.Z.{eq32}
 use Rattle.record.specs.Record.{word_count, kinds}
 use Rattle.record.specs.Configuration.{number, in_turn}
 
--- ---- which words are a yes or no
+-- ---- what a function gives at one place after another
 
 -- f at so many places from i on
-unfoldable tabled : (ℕ → Bool) → ℕ → ℕ → List Bool
+unfoldable pub tabled : {A : Type 0} → (ℕ → A) → ℕ → ℕ → List A
 tabled f i zero = []
-tabled f i (suc n) = f i ∷ tabled f (suc i) n
+tabled f i (suc n) = f i ∷ tabled f (i + 1) n
 
 tabled_at : (f : ℕ → Bool) (n i k : ℕ) → k < n → get_or (tabled f i n) k false ≡ f (i + k)
 unfolding tabled
 tabled_at f zero i k h = absurd (omega arith)
 tabled_at f (suc n) i zero h = ap f (omega arith)
-tabled_at f (suc n) i (suc k) h = tabled_at f n (suc i) k (omega arith) ∙ ap f (omega arith)
+tabled_at f (suc n) i (suc k) h = tabled_at f n (i + 1) k (omega arith) ∙ ap f (omega arith)
+
+-- an array that is made by calls, each of which gives what f does and leaves the closure as it was
+module _ {F B : Type 0} (g : Mut F (ℕ × Unit {0}) B) (Keeps : F → Type 0) (f : ℕ → B) (m : ℕ)
+    (step : (p q : F) (i : ℕ) (y : B) → i < m → Keeps p → Called g p (i, tt) y q → (y ≡ f i) × Keeps q) where
+  pub drawn : (p : F) (ys : List B) (i n : ℕ) → length ys ≡ m → i + n ≡ m → Keeps p → IsFromFnResultFrom g p ys i n → drop i ys ≡ tabled f i n
+  unfolding tabled
+  drawn p ys i zero l h k e =
+      let z : i ≡ length ys = omega arith in
+      ap (λ (n : ℕ). drop n ys) z ∙ drop-length ys
+  drawn p ys i (suc n) l h k (q, y, at, w, more) =
+      let s = step p q i y (omega arith) k w in
+      rw (← add-one i) at (drop-cons ys i y (omega arith))
+      ∙ ap₂ (λ (x : B) (xs : List B). x ∷ xs) (at.0 ∙ s.0) (drawn q ys (i + 1) n l (omega arith) s.1 more)
+
+-- ---- which words are a yes or no
 
 -- as the code has it
 abbrev flag_at : ℕ → Bool
-flag_at i = cond (ltb i 40) false (cond (ltb i 64) (leb 4 ((i - 40) % 6)) (leb 67 i))
+flag_at i = cond (leb 40 i && ltb i 64) (leb 4 ((i - 40) % 6)) (leb 67 i)
 
 -- all of them at once
 kinds_are : tabled flag_at 0 word_count ≡ kinds
@@ -45,14 +61,11 @@ kind_at i h =
     let e : i ≡ 0 + i = omega arith in
     ap flag_at e ∙ sym (tabled_at flag_at word_count 0 i h) ∙ ap (λ (l : List Bool). get_or l i false) kinds_are
 
-pub kind_first : (i : ℕ) → i < 40 → false ≡ get_or kinds i false
-kind_first i h = rw (lt-ltb i 40 h) at (kind_at i (omega arith))
+pub kind_alarm : (i : ℕ) → (leb 40 i && ltb i 64) ≡ true → i < word_count → leb 4 ((i - 40) % 6) ≡ get_or kinds i false
+kind_alarm i h k = rw h at (kind_at i k)
 
-pub kind_alarm : (i : ℕ) → 40 ≤ i → i < 64 → leb 4 ((i - 40) % 6) ≡ get_or kinds i false
-kind_alarm i h k = rw (le-ltb i 40 h, lt-ltb i 64 k) at (kind_at i (omega arith))
-
-pub kind_last : (i : ℕ) → 64 ≤ i → i < word_count → leb 67 i ≡ get_or kinds i false
-kind_last i h k = rw (le-ltb i 40 (omega arith), le-ltb i 64 h) at (kind_at i k)
+pub kind_other : (i : ℕ) → (leb 40 i && ltb i 64) ≡ false → i < word_count → leb 67 i ≡ get_or kinds i false
+kind_other i h k = rw h at (kind_at i k)
 
 -- ---- a yes or no, as the machine tests it
 
@@ -61,17 +74,9 @@ one32 z h = eq32 z (pos 1) (record { sfits = h }) (record { sfits = omega arith 
 
 -- ---- every second setting
 
--- one more at the end
-turn_more : (n : ℕ) (s : List ℤ) (at : ℕ) → in_turn n s at ++ (number s (at + 2 * n) ∷ []) ≡ in_turn (suc n) s at
-unfolding in_turn
-turn_more zero s at =
-    let e : at + 2 * 0 ≡ at = omega arith in
-    ap (λ (k : ℕ). number s k ∷ []) e
-turn_more (suc n) s at =
-    let e : at + 2 * suc n ≡ (at + 2) + 2 * n = omega arith in
-    ap (λ (l : List ℤ). number s at ∷ l) (ap (λ (k : ℕ). in_turn n s (at + 2) ++ (number s k ∷ [])) e ∙ turn_more n s (at + 2))
-
-pub turn_on : (s points : List ℤ) (at i : ℕ) (v : ℤ) → i < length points → v ≡ number s (at + 2 * i) → take i points ≡ in_turn i s at
-    → take (i + 1) (set points i v) ≡ in_turn (i + 1) s at
-turn_on s points at i v h p e =
-    rw (add-one i) (take-suc-set points i v h ∙ ap₂ (λ (l : List ℤ) (x : ℤ). l ++ (x ∷ [])) e p ∙ turn_more i s at)
+pub turns : (s : List ℤ) (at i n : ℕ) → tabled (λ (k : ℕ). number s (at + 2 * k)) i n ≡ in_turn n s (at + 2 * i)
+unfolding tabled in_turn
+turns s at i zero = refl
+turns s at i (suc n) =
+    let z : at + 2 * (i + 1) ≡ at + 2 * i + 2 = omega arith in
+    ap (λ (l : List ℤ). number s (at + 2 * i) ∷ l) (turns s at (i + 1) n ∙ ap (in_turn n s) z)

@@ -12,8 +12,7 @@ use Rattle.exact.proofs.Z.{never, and_false}
 use Rattle.text.specs.Line.{before, after, has}
 use Rattle.text.specs.Number.{is_digit, digits, natural_of, signed_of, number_of}
 use Rattle.text.specs.Word.{word_end}
-use Rattle.text.specs.declared.Natural.TheVariants as natural
-use Rattle.text.specs.declared.Number.TheVariants as number
+use Rattle.std.specs.Prelude.{None}
 use Rattle.record.specs.Record.{grown, led, words}
 
 -- ---- the first word
@@ -131,16 +130,16 @@ digits_space (b ∷ s) e = go (eqb b 32) refl (digits_space s) e
     go true p next e = rw (eqb-true b 32 p)
     go false p next e = rw (next e) (and_false (is_digit b))
 
-pub natural_space : (most : ℕ) (s : List ℕ) → has 32 s ≡ true → natural_of most s ≡ natural.Not
+pub natural_space : (most : ℕ) (s : List ℕ) → has 32 s ≡ true → natural_of most s ≡ None
 unfolding natural_of
 natural_space most s e = rw (digits_space s e, and_false (leb 1 (length s) && leb (length s) most))
 
-pub number_space : (s : List ℕ) → has 32 s ≡ true → number_of s ≡ number.Not
+pub number_space : (s : List ℕ) → has 32 s ≡ true → number_of s ≡ None
 unfolding number_of signed_of has
 number_space [] e = never e
 number_space (b ∷ s) e = go (eqb b 45) refl
   where
     go : (t : Bool) → eqb b 45 ≡ t
-        → cond t (signed_of true (natural_of 10 s)) (signed_of false (natural_of 10 (b ∷ s))) ≡ number.Not
+        → cond t (signed_of true (natural_of 10 s)) (signed_of false (natural_of 10 (b ∷ s))) ≡ None
     go true p = rw (natural_space 10 s (rw (eqb-true b 45 p) at e))
     go false p = rw (natural_space 10 (b ∷ s) e)

@@ -1,16 +1,10 @@
 -- What a line of a recorded history says: its words, cut at each space, and what they are.
-use Rattle.std.specs.Prelude.{ℕ, ◌+◌, ◌<◌, ◌≡◌, Bool, true, false, cond, not, ◌&&◌, List, [], ◌∷◌, ◌++◌, length, set, replicate, leb, eqb, ℤ, pos}
+use Rattle.std.specs.Prelude.{ℕ, ◌+◌, ◌<◌, ◌≡◌, Bool, true, false, cond, not, ◌&&◌, List, [], ◌∷◌, ◌++◌, length, set, replicate, leb, eqb, ℤ, pos, Option, Some, None}
 use Rattle.register.specs.Bytes.{ascii}
 use Rattle.text.specs.Line.{Heard, bytes, long, has}
 use Rattle.text.specs.Number.{natural_of, number_of, flag_of}
-use Rattle.text.specs.declared.Natural.{Natural}
-use Rattle.text.specs.declared.Natural.TheVariants as natural
-use Rattle.text.specs.declared.Number.{Number}
-use Rattle.text.specs.declared.Number.TheVariants as number
-use Rattle.text.specs.declared.Flag.{Flag}
-use Rattle.text.specs.declared.Flag.TheVariants as flag
 use Rattle.record.specs.declared.Event.{Event}
-use Rattle.record.specs.declared.Event.TheVariants.{Configuration, Sample, Key, Byte, Bad}
+use Rattle.record.specs.declared.Event.TheVariants.{Configuration, Sample, Key, Byte}
 
 -- ---- words
 
@@ -56,45 +50,45 @@ same (a ∷ w) (b ∷ v) = eqb a b && same w v
 -- ---- S, K and B
 
 -- `S n`: a signed number of 32 bits
-abbrev pub sample_of : Number → Event
-sample_of (number.Is n) = Sample n
-sample_of number.Not = Bad
+abbrev pub sample_of : Option ℤ → Option Event
+sample_of (Some n) = Some (Sample n)
+sample_of None = None
 
 -- `K n place`: a place is an unsigned number of 64 bits
-abbrev pub key_of : Number → Natural → Event
-key_of (number.Is n) (natural.Is place) = Key n place
-key_of (number.Is n) natural.Not = Bad
-key_of number.Not place = Bad
+abbrev pub key_of : Option ℤ → Option ℕ → Option Event
+key_of (Some n) (Some place) = Some (Key n place)
+key_of (Some n) None = None
+key_of None place = None
 
 -- `B byte place`
-abbrev pub byte_of : Natural → Natural → Event
-byte_of (natural.Is b) (natural.Is place) = cond (leb b 255) (Byte b place) Bad
-byte_of (natural.Is b) natural.Not = Bad
-byte_of natural.Not place = Bad
+abbrev pub byte_of : Option ℕ → Option ℕ → Option Event
+byte_of (Some b) (Some place) = cond (leb b 255) (Some (Byte b place)) None
+byte_of (Some b) None = None
+byte_of None place = None
 
 -- a place has at most 20 digits, a byte at most 3
-abbrev pub place_of : List ℕ → Natural
+abbrev pub place_of : List ℕ → Option ℕ
 place_of w = natural_of 20 w
 
 -- one word, or two, and no other number of them
-unfoldable pub one_word : (List ℕ → Event) → List (List ℕ) → Event
-one_word f [] = Bad
+unfoldable pub one_word : (List ℕ → Option Event) → List (List ℕ) → Option Event
+one_word f [] = None
 one_word f (a ∷ []) = f a
-one_word f (a ∷ b ∷ ws) = Bad
+one_word f (a ∷ b ∷ ws) = None
 
-unfoldable pub two_words : (List ℕ → List ℕ → Event) → List (List ℕ) → Event
-two_words f [] = Bad
-two_words f (a ∷ []) = Bad
+unfoldable pub two_words : (List ℕ → List ℕ → Option Event) → List (List ℕ) → Option Event
+two_words f [] = None
+two_words f (a ∷ []) = None
 two_words f (a ∷ b ∷ []) = f a b
-two_words f (a ∷ b ∷ c ∷ ws) = Bad
+two_words f (a ∷ b ∷ c ∷ ws) = None
 
-abbrev pub sample_said : List (List ℕ) → Event
+abbrev pub sample_said : List (List ℕ) → Option Event
 sample_said ws = one_word (λ (n : List ℕ). sample_of (number_of n)) ws
 
-abbrev pub key_said : List (List ℕ) → Event
+abbrev pub key_said : List (List ℕ) → Option Event
 key_said ws = two_words (λ (n place : List ℕ). key_of (number_of n) (place_of place)) ws
 
-abbrev pub byte_said : List (List ℕ) → Event
+abbrev pub byte_said : List (List ℕ) → Option Event
 byte_said ws = two_words (λ (b place : List ℕ). byte_of (natural_of 3 b) (place_of place)) ws
 
 -- ---- CFG
@@ -118,18 +112,18 @@ kinds =
     replicate 40 false ++ (alarm_kinds ++ (alarm_kinds ++ (alarm_kinds ++ (alarm_kinds ++ (replicate 3 false ++ replicate 7 true)))))
 
 -- a yes is 1, a no is 0
-abbrev pub as_number : Flag → Number
-as_number (flag.Is true) = number.Is (pos 1)
-as_number (flag.Is false) = number.Is (pos 0)
-as_number flag.Not = number.Not
+abbrev pub as_number : Option Bool → Option ℤ
+as_number (Some true) = Some (pos 1)
+as_number (Some false) = Some (pos 0)
+as_number None = None
 
-abbrev pub setting_of : Bool → List ℕ → Number
+abbrev pub setting_of : Bool → List ℕ → Option ℤ
 setting_of true w = as_number (flag_of w)
 setting_of false w = number_of w
 
-abbrev pub onto : Number → List ℤ → List ℤ
-onto (number.Is v) l = v ∷ l
-onto number.Not l = []
+abbrev pub onto : Option ℤ → List ℤ → List ℤ
+onto (Some v) l = v ∷ l
+onto None l = []
 
 -- the settings that words are, up to the first that is none
 unfoldable pub settings_of : List Bool → List (List ℕ) → List ℤ
@@ -149,29 +143,29 @@ abbrev pub configuration_read : List (List ℕ) → List ℤ
 configuration_read ws = settings_of kinds (completed ws)
 
 -- as many words, each of them a setting
-unfoldable pub configuration_said : List (List ℕ) → Event
-configuration_said ws = cond (eqb (length (completed ws)) word_count && eqb (length (configuration_read ws)) word_count) Configuration Bad
+unfoldable pub configuration_said : List (List ℕ) → Option Event
+configuration_said ws = cond (eqb (length (completed ws)) word_count && eqb (length (configuration_read ws)) word_count) (Some Configuration) None
 
 -- ---- a line
 
 -- the first word says which line it is: S, K, B
-unfoldable pub short_said : List ℕ → List (List ℕ) → Event
+unfoldable pub short_said : List ℕ → List (List ℕ) → Option Event
 short_said k ws =
-    cond (same k (ascii "S")) (sample_said ws) (cond (same k (ascii "K")) (key_said ws) (cond (same k (ascii "B")) (byte_said ws) Bad))
+    cond (same k (ascii "S")) (sample_said ws) (cond (same k (ascii "K")) (key_said ws) (cond (same k (ascii "B")) (byte_said ws) None))
 
-abbrev pub short_by : List (List ℕ) → Event
-short_by [] = Bad
+abbrev pub short_by : List (List ℕ) → Option Event
+short_by [] = None
 short_by (k ∷ ws) = short_said k ws
 
 -- or CFG; any other line is bad
 abbrev pub is_cfg : List ℕ → Bool
 is_cfg k = same k (ascii "CFG")
 
-abbrev pub said_by : List (List ℕ) → Event
-said_by [] = Bad
+abbrev pub said_by : List (List ℕ) → Option Event
+said_by [] = None
 said_by (k ∷ ws) = cond (is_cfg k) (configuration_said ws) (short_said k ws)
 
-unfoldable pub event_of : List ℕ → Event
+unfoldable pub event_of : List ℕ → Option Event
 event_of l = said_by (words l)
 
 -- the settings of a line: none, where it is no `CFG`
@@ -188,9 +182,9 @@ stored i old [] = old
 stored i old (v ∷ read) = stored (i + 1) (set old i v) read
 
 -- a line that is too long is bad
-unfoldable pub event_heard : Heard → Event
+unfoldable pub event_heard : Heard → Option Event
 event_heard (bytes l) = event_of l
-event_heard long = Bad
+event_heard long = None
 
 unfoldable pub read_heard : Heard → List ℤ
 read_heard (bytes l) = read_of l

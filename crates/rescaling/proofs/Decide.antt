@@ -13,27 +13,26 @@ use Rattle.reading.specs.declared.Reading.{Reading}
 use Rattle.reading.specs.declared.Reading.TheVariants as reading
 use Rattle.config.specs.Config.{judged}
 use Rattle.config.specs.declared.Scale.{Scale}
-use Rattle.config.specs.declared.Verdict.{Verdict}
-use Rattle.config.specs.declared.Verdict.TheVariants.{Accepted, Broken}
+use Rattle.config.specs.Verdict.{Verdict}
+use Rattle.config.specs.Verdict.{Accepted, Broken}
 use Rattle.source.specs.Source.{reading_by}
 use Rattle.source.proofs.Laws.{by_source_lem}
 use Rattle.record.specs.Record.{event_heard}
 use Rattle.record.specs.declared.Event.{Event}
-use Rattle.record.specs.declared.Event.TheVariants.{Configuration, Sample, Key, Byte, Bad}
+use Rattle.record.specs.declared.Event.TheVariants.{Configuration, Sample, Key, Byte}
 use Rattle.register.specs.Bytes.{ascii}
 use Rattle.text.specs.Line.{kept}
-use Rattle.text.specs.declared.Number.{Number}
-use Rattle.text.specs.declared.Number.TheVariants as number
+use Rattle.std.specs.Prelude.{Option, Some, None}
 use Rattle.rescaling.specs.Rescaling.{Start, scaled, refused, unconfigured, by_verdict, start_of, input_heard, first_told, read_by}
 use Rattle.rescaling.specs.Show.{ended, shown_of, later_lines, all_shown}
 use Rattle.rescaling.specs.Meaning.{config_in, reading_at, input_line, each, Decides, Readings}
 
 -- ---- later lines
 
-read_line : (s : Scale) (n : Number) → shown_of (read_by (reading_by s) n) ≡ reading_at s n
+read_line : (s : Scale) (n : Option ℤ) → shown_of (read_by (reading_by s) n) ≡ reading_at s n
 unfolding shown_of
-read_line s (number.Is x) = refl
-read_line s number.Not = refl
+read_line s (Some x) = refl
+read_line s None = refl
 
 later_scaled : (s : Scale) (ls : List (List ℕ)) → later_lines (scaled s) ls ≡ each (input_line s) ls
 unfolding later_lines each
@@ -53,17 +52,17 @@ later_unconfigured (l ∷ ls) = ap (λ (x : List (List ℕ)). ended (ascii "?") 
 -- ---- the first line
 
 module _ (first : List ℕ) where
-  start_judged : (v : Verdict) → event_heard (kept first) ≡ Configuration → judged (config_in first) ≡ v → start_of (kept first) ≡ by_verdict (config_in first).scale v
+  start_judged : (v : Verdict) → event_heard (kept first) ≡ Some Configuration → judged (config_in first) ≡ v → start_of (kept first) ≡ by_verdict (config_in first).scale v
   unfolding start_of
   start_judged v e j = rw (e, j)
 
-  start_other : (e : Event) → event_heard (kept first) ≡ e → e ≢ Configuration → start_of (kept first) ≡ unconfigured
+  start_other : (e : Option Event) → event_heard (kept first) ≡ e → e ≢ Some Configuration → start_of (kept first) ≡ unconfigured
   unfolding start_of
-  start_other Configuration p n = absurd (n refl)
-  start_other (Sample z) p n = rw p
-  start_other (Key z place) p n = rw p
-  start_other (Byte b place) p n = rw p
-  start_other Bad p n = rw p
+  start_other (Some Configuration) p n = absurd (n refl)
+  start_other (Some (Sample z)) p n = rw p
+  start_other (Some (Key z place)) p n = rw p
+  start_other (Some (Byte b place)) p n = rw p
+  start_other None p n = rw p
 
   shown_from : (rest : List (List ℕ)) (start : Start) → start_of (kept first) ≡ start → all_shown (first ∷ rest) ≡ shown_of (first_told start) ++ later_lines start rest
   unfolding all_shown

@@ -5,12 +5,11 @@ use Prim.Native.Nat.{ℕ}
 use Prim.Native.String.{String}
 use lib.ListN.{replicate}
 use lib.IntN.{pos}
+use Rattle.std.specs.Prelude.{None, Some}
 use Rattle.exact.specs.Exact.{cut}
 use Rattle.exact.specs.Sign.{minus}
 use Rattle.answer.specs.declared.Answer.TheVariants.{Done, Replied, Refused, NotStarted}
 use Rattle.extremes.specs.Extremes as extremes
-use Rattle.extremes.specs.declared.Kept.TheVariants.{Holds}
-use Rattle.extremes.specs.declared.Streak.TheVariants.{Idle, Lasts}
 use Rattle.register.specs.Bytes.{ascii}
 use Rattle.text.specs.Numeral.{fewest, numeral}
 use Rattle.total.specs.Total as total
@@ -42,9 +41,9 @@ rows =
     ∷ row (numeral 10 ∷ []) "10"
     ∷ row (numeral 18446744073709551615 ∷ []) "18446744073709551615"
     ∷ row (signed (minus 199999)) "-199999"
-    ∷ row (extreme_words (extremes.extreme (Holds (pos 100)) (Lasts 3 (pos 105))) (extremes.extreme (Holds (minus 5)) (Lasts 12 (minus 7))))
+    ∷ row (extreme_words (extremes.extreme (Some (pos 100)) (Some (extremes.streak 3 (pos 105)))) (extremes.extreme (Some (minus 5)) (Some (extremes.streak 12 (minus 7)))))
     " MAX=100 MIN=-5 MR=3:105 NR=12:-7"
-    ∷ row (extreme_words (extremes.extreme (Holds (pos 100)) Idle) (extremes.extreme (Holds (pos 0)) (Lasts 1 (minus 1)))) " MAX=100 MIN=0 MR=0 NR=1:-1"
+    ∷ row (extreme_words (extremes.extreme (Some (pos 100)) None) (extremes.extreme (Some (pos 0)) (Some (extremes.streak 1 (minus 1))))) " MAX=100 MIN=0 MR=0 NR=1:-1"
     ∷ line (buffer_words (78 ∷ 238 ∷ 10 ∷ 238 ∷ 238 ∷ [])) " BUF=4eee0a"
     ∷ line (power_line Done) "0 0"
     ∷ line (power_line (Refused 5)) "11 5"

@@ -1,85 +1,76 @@
--- What is printed, over plain values. Assumes nothing.
-use mathlib.Core.Path.{◌≡◌, refl, sym, ap, ◌∙◌}
-use mathlib.Core.Bool.{Bool, true, false, cond}
-use mathlib.Core.List.{List, [], ◌∷◌, ◌++◌}
-use Prim.Native.Nat.{ℕ, suc, ◌-◌, ◌≤◌, ◌<◌}
-use native.Mathlib.Omega.{arith}
-use lib.Dec.{eqb}
-use lib.IntN.{ℤ, pos, nat_abs, ◌*ℤ◌}
-use lib.ListN.{length, take, get_or}
-use lib.Seq.{take-suc}
-use lib.Signed.{lt_z}
-use borrow.Author.Tests.{ne_eqb}
+-- What is printed, over plain values.
+use Rattle.std.proofs.Common.{◌≡◌, ℕ, zero, suc, ◌+◌, ◌≤◌, ◌<◌, Bool, false, eqb, List, [], ◌∷◌, ◌++◌, ℤ, pos, nat_abs, ◌*ℤ◌, length, take, get_or, refl, sym, ap, ◌∙◌, append_assoc, append-nil, arith, ne_eqb, add-one, drop, drop-cons, drop_of_length-le, eq-eqb, length-take-le}
+use Rattle.std.proofs.lemmas.List.{take_all}
+use Rattle.std.specs.Int.Signed.{lt_z}
 use Rattle.exact.specs.Exact.{cut}
 use Rattle.exact.proofs.Z.{abs_mul}
-use Rattle.answer.specs.declared.Answer.{Answer}
-use Rattle.meter.specs.declared.Meter.{Meter}
-use Rattle.receiver.specs.Receiver.{over}
-use Rattle.receiver.specs.declared.Receiver.{Receiver}
 use Rattle.register.specs.Bytes.{ascii}
+use Rattle.text.specs.Output.{Waiting, puts}
+use Rattle.text.proofs.Waits.{puts_append}
 use Rattle.total.specs.Total.{unit_of, quotient}
 use Rattle.total.specs.declared.Totalizer.{Totalizer}
-use Rattle.hexadecimal.specs.Hex.{hex}
-use Rattle.show.specs.Show.{quotient_of, kept, unwritten, trimmed, buffer_words, received_words, meter_words, is_not_started, answer_head, event_line}
+use Rattle.show.specs.Show.{named, behind_commas, number_words, quotient_of, kept, unwritten, trimmed}
+
+-- the pieces behind others are put behind them: by this law alone the check finds most of this crate's proofs
+pub puts_next : (w : Waiting) (a b : List (List ℕ)) → puts w (a ++ b) ≡ puts (puts w a) b
+puts_next w a b = sym (puts_append w a b)
+
+-- ---- four numbers
+
+pub four : {A : Type 0} (l : List A) (d : A) (f : ℕ → A) → length l ≡ 4 → ((i : ℕ) → i < 4 → get_or l i d ≡ f i) → l ≡ f 0 ∷ f 1 ∷ f 2 ∷ f 3 ∷ []
+four [] d f e h = absurd (omega arith)
+four (a ∷ []) d f e h = absurd (omega arith)
+four (a ∷ b ∷ []) d f e h = absurd (omega arith)
+four (a ∷ b ∷ c ∷ []) d f e h = absurd (omega arith)
+four (a ∷ b ∷ c ∷ x ∷ []) d f e h = rw (h 0 (omega arith), h 1 (omega arith), h 2 (omega arith), h 3 (omega arith))
+four (a ∷ b ∷ c ∷ x ∷ y ∷ l) d f e h = absurd (omega arith)
+
+-- what four numbers put is pieces one behind another
+pub numbers_four : (name : List ℕ) (l : List ℤ) (f : ℕ → ℤ) → length l ≡ 4 → ((i : ℕ) → i < 4 → get_or l i (pos 0) ≡ f i)
+    → number_words name l ≡ ((named name (f 0) ++ named (ascii ",") (f 1)) ++ named (ascii ",") (f 2)) ++ named (ascii ",") (f 3)
+unfolding number_words behind_commas
+numbers_four name l f e h = ap (number_words name) (four l (pos 0) f e h) ∙ simp (append_assoc, append-nil)
+
+pub numbers_first : (name : List ℕ) (l : List ℤ) → length l ≡ 4 → number_words name l ≡ named name (get_or l 0 (pos 0)) ++ behind_commas (take 3 (drop 1 l))
+unfolding number_words
+numbers_first name [] h = absurd (omega arith)
+numbers_first name (z ∷ l) h = rw (take_all 3 l (omega arith))
+
+pub commas_next : (l : List ℤ) (i : ℕ) → i < length l → behind_commas (drop i l) ≡ named (ascii ",") (get_or l i (pos 0)) ++ behind_commas (drop (i + 1) l)
+unfolding behind_commas
+commas_next l i h = rw add-one (ap behind_commas (drop-cons l i (pos 0) h))
+
+pub commas_out : (l : List ℤ) (i : ℕ) → length l ≤ i → behind_commas (drop i l) ≡ []
+unfolding behind_commas
+commas_out l i h = ap behind_commas (drop_of_length-le l h)
 
 -- ---- the buffer without the EE at its end
 
-trim_ee : (s : List ℕ) → trimmed (s ++ (unwritten ∷ [])) ≡ trimmed s
+kept_more : (t : Bool) (b : ℕ) (l : List ℕ) → 0 < length l → kept t b l ≡ b ∷ l
+kept_more t b [] h = absurd (omega arith)
+kept_more t b (c ∷ l) h = refl
+
+pub trimmed_none : (s : List ℕ) → ((k : ℕ) → k < length s → get_or s k 0 ≡ unwritten) → [] ≡ trimmed s
 unfolding trimmed
-trim_ee [] = refl
-trim_ee (b ∷ s) = ap (kept (eqb b unwritten) b) (trim_ee s)
+trimmed_none [] h = refl
+trimmed_none (b ∷ s) h =
+    let rest = trimmed_none s (λ k l. h (suc k) (omega arith)) in
+    rw (eq-eqb b unwritten (h 0 (omega arith)), ← rest)
 
-trim_other : (s : List ℕ) (x : ℕ) → (x ≡ unwritten → ⊥) → trimmed (s ++ (x ∷ [])) ≡ s ++ (x ∷ [])
+-- the last that was written stands at place i
+pub trimmed_at : (s : List ℕ) (i : ℕ) → i < length s → (get_or s i 0 ≡ unwritten → ⊥) → ((k : ℕ) → i < k → k < length s → get_or s k 0 ≡ unwritten)
+    → take (suc i) s ≡ trimmed s
 unfolding trimmed
-trim_other [] x e = rw (ne_eqb x unwritten e)
-trim_other (b ∷ s) x e = ap (kept (eqb b unwritten) b) (trim_other s x e) ∙ go (eqb b unwritten) s
-  where
-    go : (t : Bool) (s : List ℕ) → kept t b (s ++ (x ∷ [])) ≡ b ∷ (s ++ (x ∷ []))
-    go t [] = refl
-    go t (c ∷ s) = refl
-
-module _ (l : List ℕ) (n : ℕ) (a : 0 < n) (b : n ≤ length l) where
-  last_one : take n l ≡ take (n - 1) l ++ (get_or l (n - 1) 0 ∷ [])
-  last_one =
-      let e : n ≡ suc (n - 1) = omega arith in
-      ap (λ (k : ℕ). take k l) e ∙ take-suc l (n - 1) 0 (omega arith)
-
-  pub trim_stop : (get_or l (n - 1) 0 ≡ unwritten → ⊥) → trimmed (take n l) ≡ take n l
-  trim_stop e = ap trimmed last_one ∙ trim_other (take (n - 1) l) (get_or l (n - 1) 0) e ∙ sym last_one
-
-  pub trim_on : get_or l (n - 1) 0 ≡ unwritten → trimmed (take (n - 1) l) ≡ trimmed (take n l)
-  trim_on e = sym (ap trimmed last_one ∙ ap (λ (x : ℕ). trimmed (take (n - 1) l ++ (x ∷ []))) e ∙ trim_ee (take (n - 1) l))
-
-pub trim_out : (l : List ℕ) (n : ℕ) → n ≡ 0 → trimmed (take n l) ≡ []
-unfolding trimmed
-trim_out l n e = ap (λ (k : ℕ). trimmed (take k l)) e
+trimmed_at [] i a e h = absurd (omega arith)
+trimmed_at (b ∷ s) zero a e h =
+    let rest = trimmed_none s (λ k l. h (suc k) (omega arith) (omega arith)) in
+    rw (ne_eqb b unwritten e, ← rest)
+trimmed_at (b ∷ s) (suc i) a e h =
+    let rest = trimmed_at s i (omega arith) e (λ k l m. h (suc k) (omega arith) (omega arith)) in
+    rw (← rest) (sym (kept_more (eqb b unwritten) b (take (suc i) s) (omega (arith, length-take-le (suc i) s (omega arith)))))
 
 -- ---- the total
-
-pub quotient_none : (s : Totalizer) (sum : ℤ) → lt_z s.time_base (pos 1) ≡ true → pos 0 ≡ quotient_of s sum
-unfolding quotient_of
-quotient_none s sum e = rw e
 
 pub quotient_is : (s : Totalizer) (sum : ℤ) → lt_z s.time_base (pos 1) ≡ false → cut sum (nat_abs (pos 20000 *ℤ s.time_base)) ≡ quotient_of s sum
 unfolding quotient_of quotient unit_of
 quotient_is s sum e = rw (e, abs_mul (pos 20000) s.time_base)
-
--- ---- lines
-
-pub received_long : (r : Receiver) → over r.length ≡ true → ((ascii " RX=" ∷ []) ++ (ascii "- RXO=1" ∷ [])) ≡ received_words r
-unfolding received_words
-received_long r h = rw h
-
-pub received_held : (r : Receiver) → over r.length ≡ false
-    → ((ascii " RX=" ∷ []) ++ (hex (take r.length r.bytes) ++ (ascii " RXO=0" ∷ []))) ≡ received_words r
-unfolding received_words
-received_held r h = rw h
-
-pub event_off : (a : Answer) (m : Meter) (buffer : List ℕ) → is_not_started a ≡ true → answer_head a ++ buffer_words buffer ≡ event_line a m buffer
-unfolding event_line
-event_off a m buffer e = ap (λ (t : Bool). cond t (answer_head a) (answer_head a ++ meter_words m) ++ buffer_words buffer) (sym e)
-
-pub event_on : (a : Answer) (m : Meter) (buffer : List ℕ) → is_not_started a ≡ false
-    → (answer_head a ++ meter_words m) ++ buffer_words buffer ≡ event_line a m buffer
-unfolding event_line
-event_on a m buffer e = ap (λ (t : Bool). cond t (answer_head a) (answer_head a ++ meter_words m) ++ buffer_words buffer) (sym e)

@@ -1,5 +1,5 @@
 -- What is printed of a line, piece by piece.
-use Rattle.std.specs.Prelude.{ℕ, Bool, cond, List, [], ◌∷◌, ◌++◌, eqb, ℤ, pos, take}
+use Rattle.std.specs.Prelude.{ℕ, Bool, cond, List, [], ◌∷◌, ◌++◌, Option, None, Some, eqb, ℤ, pos, take}
 use Rattle.std.specs.Int.Signed.{lt_z}
 use Rattle.answer.specs.Answer as answers
 use Rattle.answer.specs.declared.Answer.{Answer}
@@ -11,7 +11,6 @@ use Rattle.reading.specs.declared.Reading.{Reading}
 use Rattle.reading.specs.declared.Reading.TheVariants as reading
 use Rattle.extremes.specs.Extremes as extremes
 use Rattle.extremes.specs.declared.Streak.{Streak}
-use Rattle.extremes.specs.declared.Streak.TheVariants.{Idle, Lasts}
 use Rattle.extremes.specs.declared.Extreme.{Extreme}
 use Rattle.alarm.specs.declared.Alarm.{Alarm}
 use Rattle.alarms.specs.Alarms.{alarm_at}
@@ -36,6 +35,15 @@ named name z = name ∷ signed z
 
 unfoldable pub counted : List ℕ → ℕ → List (List ℕ)
 counted name n = name ∷ numeral n ∷ []
+
+-- numbers, the first behind a name and each other behind a comma
+unfoldable pub behind_commas : List ℤ → List (List ℕ)
+behind_commas [] = []
+behind_commas (z ∷ l) = named (ascii ",") z ++ behind_commas l
+
+unfoldable pub number_words : List ℕ → List ℤ → List (List ℕ)
+number_words name [] = []
+number_words name (z ∷ l) = named name z ++ behind_commas l
 
 -- ---- the answer, and the number that it carries
 
@@ -86,9 +94,9 @@ buffer_words s = (ascii " BUF=" ∷ hex (trimmed s)) ++ ((10 ∷ []) ∷ [])
 -- ---- the state of a meter
 
 -- a run: 0 where none goes on, else how many readings it has and the number that it remembers
-unfoldable pub streak_words : List ℕ → Streak → List (List ℕ)
-streak_words name Idle = counted name 0
-streak_words name (Lasts n v) = counted name n ++ named (ascii ":") v
+unfoldable pub streak_words : List ℕ → Option Streak → List (List ℕ)
+streak_words name None = counted name 0
+streak_words name (Some s) = counted name s.readings ++ named (ascii ":") s.nearest
 
 unfoldable pub extreme_words : Extreme → Extreme → List (List ℕ)
 extreme_words max min =

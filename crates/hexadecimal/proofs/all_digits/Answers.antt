@@ -1,28 +1,14 @@
--- `hexadecimal::all_digits` meets its contract: what is left to judge is as the whole. Assumes nothing.
-use native.Mathlib.Omega.{arith}
-use mathlib.Core.Path.{◌≡◌, refl, sym, ◌∙◌}
-use mathlib.Core.Bool.{true, false}
-use lib.ListN.{get_or}
-use Rattle.hexadecimal.specs.Hex.{is_digit}
-use Rattle.hexadecimal.proofs.Digits.{digits_at, digits_out}
+-- `hexadecimal::all_digits` meets its contract: std's test of every byte is the definition's. Assumes nothing.
+use Rattle.std.proofs.Common.{◌≡◌, ◌∙◌, rules, tests}
+use Rattle.std.proofs.lemmas.Iterator.{YieldsList-from_slice}
+use Rattle.std.proofs.lemmas.Iterator.Search.{all_from_yields_List}
+use Rattle.std.specs.Char.{is_ascii_hexdigit}
+use Rattle.std.specs.List.{list_all}
+use Rattle.hexadecimal.proofs.Digits.{digits_are}
 use Rattle.hexadecimal.proofs.all_digits.Goals as goal
 
-pub loop-i-init : goal.loop-i-init
-loop-i-init c = (omega arith, refl)
-
-pub returns-then-not-is_digit : goal.returns-then-not-is_digit
-returns-then-not-is_digit c =
-    let s = c.args.text.now in
-    let l = c.loop-i in
-    let e : is_digit (get_or s l.i 0) ≡ false = sym c.is_digit.ensures ∙ c.if-not-is_digit.true in
-    sym (l.invariant.1 ∙ digits_at s l.i (omega arith) ∙ rw e)
-
-pub loop-i-preserved : goal.loop-i-preserved
-loop-i-preserved c =
-    let s = c.args.text.now in
-    let l = c.loop-i in
-    let e : is_digit (get_or s l.i 0) ≡ true = sym c.is_digit.ensures ∙ c.if-not-is_digit.false in
-    (omega arith, l.invariant.1 ∙ digits_at s l.i (omega arith) ∙ rw e)
-
 pub returns : goal.returns
-returns c = sym (c.loop-i.invariant.1 ∙ digits_out _ c.loop-i.i (omega arith))
+returns c =
+    let each : c.all.result ≡ list_all is_ascii_hexdigit c.args.text.now =
+    all_from_yields_List is_ascii_hexdigit _ _ c.all.result c.all.ensures.ran (YieldsList-from_slice _ c.iter.ensures.rest) (λ x b q k. search (rules, tests)) in
+    each ∙ digits_are c.args.text.now

@@ -1,14 +1,16 @@
 -- `hexadecimal::put_hex_byte` meets its contract: the table has the sixteen digits. Assumes nothing.
-use mathlib.Core.Path.{ap, ap₂, ◌∙◌}
-use mathlib.Core.List.{[], ◌∷◌}
-use Prim.Native.Nat.{ℕ, ◌/◌, ◌%◌}
+use Rattle.std.proofs.Common.{[], ◌∷◌, ℕ, ap, ap₂, ◌∙◌, arith}
+use Rattle.io.specs.Digits.{hex_digit_ascii}
 use Rattle.text.specs.Output.{waiting, put_in}
 use Rattle.text.proofs.Pieces.{one}
 use Rattle.hexadecimal.proofs.Pieces.{hex_digit}
-use borrow.Author.Rules.{rules}
 use Rattle.hexadecimal.proofs.put_hex_byte.Goals as goal
 
 pub returns : goal.returns
 returns c =
-    let a = c.args in
-    one _ _ _ (c.put.ensures ∙ ap (put_in (waiting a.o.at a.buf.now)) (ap₂ (λ (x y : ℕ). x ∷ y ∷ []) (hex_digit (a.b / 16) (search rules)) (hex_digit (a.b % 16) (search rules))))
+    let w = waiting c.args.out.now in
+    one w (waiting c.put.new.self) _
+    (c.put.ensures
+    ∙ ap (put_in w)
+    (ap₂ (λ (x y : ℕ). x ∷ y ∷ []) (hex_digit c.from-high.result (omega (arith, c.from-high.ensures)) ∙ ap hex_digit_ascii c.from-high.ensures)
+    (hex_digit c.from-low.result (omega (arith, c.from-low.ensures)) ∙ ap hex_digit_ascii c.from-low.ensures)))

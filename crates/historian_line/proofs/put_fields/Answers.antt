@@ -6,6 +6,5 @@ use Rattle.historian_line.proofs.put_fields.Goals as goal
 pub returns : goal.returns
 unfolding fields_line
 returns c =
-    let p = c in
-    let a = p.args in
-    next _ _ _ (kind_pieces a.kind a.places) (bits_pieces a.bits) p.put_kind-p.ensures c.put_bits.ensures
+    let a = c.args in
+    next _ _ _ (kind_pieces a.kind a.places) (bits_pieces a.bits) c.put_kind.ensures c.put_bits.ensures

@@ -1,17 +1,14 @@
 -- Each part is what the words at its places say.
-use mathlib.Core.Path.{◌≡◌}
-use mir.Syntax.{w32}
-use mir.Val.{to_z, of_z}
+use Rattle.std.proofs.Common.{◌≡◌, refl, ℕ, ◌+◌, ◌*◌, [], ◌∷◌, rules}
 use Rattle.record.specs.Configuration.{number, config_of}
-use borrow.Author.Rules.{rules}
+use Rattle.record.proofs.Settings.{tabled, drawn}
 use Rattle.record.proofs.config_of.Goals as goal
 
 pub returns-clause-value : goal.returns-clause-value
-unfolding config_of
+unfolding config_of tabled
 returns-clause-value c =
     let s = c.args.s.now in
-    let a : to_z w32 (of_z w32 (number s 40)) ≡ number s 40 = search rules in
-    let b : to_z w32 (of_z w32 (number s 46)) ≡ number s 46 = search rules in
-    let d : to_z w32 (of_z w32 (number s 52)) ≡ number s 52 = search rules in
-    let e : to_z w32 (of_z w32 (number s 58)) ≡ number s 58 = search rules in
-    rw (a, b, d, e, c.scale_of-scale.ensures, c.working_of-working.ensures, c.talking_of-talking.ensures)
+    let items = c.from_fn.ensures.items in
+    let setpoints : c.from_fn.result ≡ number s 40 ∷ number s 46 ∷ number s 52 ∷ number s 58 ∷ [] =
+    drawn _ (λ p. p.0.now ≡ s) (λ (k : ℕ). number s (40 + 6 * k)) 4 (λ p q i y h k w. (search rules, search rules)) _ c.from_fn.result 0 4 items.long refl refl items.each in
+    rw (setpoints, c.scale_of.ensures, c.working_of.ensures, c.talking_of.ensures)

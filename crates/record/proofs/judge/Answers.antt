@@ -1,21 +1,21 @@
--- `record::judge` meets its contract: the array and its count are the line. Assumes nothing.
-use native.Mathlib.Omega.{arith}
-use mathlib.Core.Path.{ap, ◌∙◌}
-use mathlib.Core.List.{List}
-use Prim.Native.Nat.{ℕ}
-use Rattle.text.proofs.Laws.{part}
-use Rattle.record.specs.Record.{event_of, read_of, stored}
-use Rattle.record.proofs.Said.{too_long, line_is, untouched}
+-- A line that is not too long is its bytes.
+use Rattle.std.proofs.Common.{◌∙◌, sym, ap}
+use Rattle.text.specs.Line.{Heard}
+use Rattle.record.specs.Record.{event_heard, read_heard, stored}
+use Rattle.record.proofs.Said.{untouched}
 use Rattle.record.proofs.judge.Goals as goal
 
-pub returns-then-s-len : goal.returns-then-s-len
-returns-then-s-len c =
-    let a = c.args in
-    let h = too_long a.line.now a.len (omega arith) in
-    record { value = h.0; settings_after = untouched a.settings.now h.1 }
+pub returns-in_err-text : goal.returns-in_err-text
+unfolding event_heard read_heard
+returns-in_err-text c =
+    let long = c.in_err-text.ensures in
+    record { value = c.from_residual.ensures ∙ sym (ap event_heard long); settings_after = untouched c.args.settings.now (sym (ap read_heard long)) }
 
 pub returns : goal.returns
+unfolding event_heard read_heard
 returns c =
-    let a = c.args in
-    let f = part 0 a.len a.line.now in
-    let h = line_is a.line.now a.len (omega arith) in record { value = c.parse.ensures.value ∙ ap event_of f ∙ h.0; settings_after = c.parse.ensures.settings_after ∙ ap (λ (l : List ℕ). stored 0 a.settings.now (read_of l)) f ∙ ap (stored 0 a.settings.now) h.1 }
+    let bytes = c.in_ok-text.ensures in
+    record {
+      value = c.parse.ensures.value ∙ sym (ap event_heard bytes);
+      settings_after = c.parse.ensures.settings_after ∙ sym (ap (λ (h : Heard). stored 0 c.args.settings.now (read_heard h)) bytes);
+    }

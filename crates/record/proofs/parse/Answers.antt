@@ -1,27 +1,23 @@
--- `record::parse` meets its contract: the four bytes say whether the first word is `CFG`. Assumes nothing.
-use mathlib.Core.Path.{ap, ◌∙◌}
-use mathlib.Core.List.{List}
-use Prim.Native.Nat.{ℕ}
-use Rattle.text.proofs.Laws.{rest}
-use Rattle.record.specs.Record.{words, configuration_read, configuration_said, stored}
-use Rattle.record.proofs.Said.{short_is, none_read, configuration_is, settings_are, no_cfg, untouched}
+-- Whether the line begins with the four bytes says whether its first word is `CFG`.
+use Rattle.std.proofs.Common.{◌≡◌, ◌∙◌, ap, ◌++◌, Some, None}
+use Rattle.std.proofs.lemmas.Bool.Decides.{Decides-eqb}
+use Rattle.std.proofs.lemmas.Slice.Eq.{strip_prefix_is}
+use Rattle.register.specs.Bytes.{ascii}
+use Rattle.record.specs.Record.{stored}
+use Rattle.record.proofs.Said.{short_is, none_read, configuration_is, settings_are, untouched}
 use Rattle.record.proofs.parse.Goals as goal
 
-pub returns-then-s-lt4 : goal.returns-then-s-lt4
-returns-then-s-lt4 c =
-    let a = c.args in
-    let n = no_cfg a.s.now c.if-s-lt4.true in
-    record { value = c.brief.ensures ∙ short_is a.s.now n; settings_after = untouched a.settings.now (none_read a.s.now n) }
+pub returns-in-Some : goal.returns-in-Some
+returns-in-Some c =
+    let s = c.args.s.now in
+    let is : s ≡ ascii "CFG " ++ c.in-Some.rest.now = strip_prefix_is Decides-eqb s (ascii "CFG ") (Some c.in-Some.rest) c.in-Some.ensures.cases in
+    record {
+      value = c.configuration.ensures.value ∙ configuration_is s _ is;
+      settings_after = c.configuration.ensures.settings_after ∙ ap (stored 0 c.args.settings.now) (settings_are s _ is);
+    }
 
-pub returns-then-s : goal.returns-then-s
-returns-then-s c =
-    let a = c.args in
-    let s = a.s.now in
-    let y = c.if-s.true in
-    let e = c.configuration.ensures in record { value = e.value ∙ ap (λ (l : List ℕ). configuration_said (words l)) (rest 4 s) ∙ configuration_is s y; settings_after = e.settings_after ∙ ap (λ (l : List ℕ). stored 0 a.settings.now (configuration_read (words l))) (rest 4 s) ∙ ap (stored 0 a.settings.now) (settings_are s y) }
-
-pub returns : goal.returns
-returns c =
-    let a = c.args in
-    let n = c.if-s.false in
-    record { value = c.brief-2.ensures ∙ short_is a.s.now n; settings_after = untouched a.settings.now (none_read a.s.now n) }
+pub returns-in-None : goal.returns-in-None
+returns-in-None c =
+    let s = c.args.s.now in
+    let other = strip_prefix_is Decides-eqb s (ascii "CFG ") None c.in-None.ensures.cases in
+    record { value = c.brief.ensures ∙ short_is s other; settings_after = untouched c.args.settings.now (none_read s other) }

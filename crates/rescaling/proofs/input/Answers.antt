@@ -1,17 +1,12 @@
--- `rescaling::input` meets its contract: the array and its count are the line. Assumes nothing.
-use mathlib.Core.Path.{sym, ◌∙◌}
-use native.Mathlib.Omega.{arith}
-use lib.Seq.{length-take-le}
-use Rattle.rescaling.proofs.Starts.{input_long, input_is}
+-- A line that is not too long is its bytes.
+use Rattle.std.proofs.Common.{◌∙◌, sym, ap}
+use Rattle.rescaling.specs.Rescaling.{input_heard}
 use Rattle.rescaling.proofs.input.Goals as goal
 
-pub returns-then-len-gt-KEPT : goal.returns-then-len-gt-KEPT
-returns-then-len-gt-KEPT c = input_long c.args.line.now c.args.len c.if-len-gt-KEPT.true
-
-pub slice_bounds-read_number-end : goal.slice_bounds-read_number-end
-slice_bounds-read_number-end c = sym (length-take-le _ _ (omega arith))
+pub returns-in_err-text : goal.returns-in_err-text
+unfolding input_heard
+returns-in_err-text c = c.from_residual.ensures ∙ sym (ap input_heard c.in_err-text.ensures)
 
 pub returns : goal.returns
-returns c =
-    let a = c.args in
-    c.read_number.ensures ∙ input_is a.line.now a.len (omega arith)
+unfolding input_heard
+returns c = c.read_number.ensures ∙ sym (ap input_heard c.in_ok-text.ensures)

@@ -1,5 +1,5 @@
--- `rescaling::put_answer` meets its contract: the pieces are put one after another. Assumes nothing.
-use mathlib.Core.List.{[], ◌∷◌}
+-- The pieces are put one after another.
+use Rattle.std.proofs.Common.{[], ◌∷◌}
 use Rattle.answer.specs.Answer.{number, value}
 use Rattle.register.specs.Bytes.{ascii}
 use Rattle.text.specs.Numeral.{numeral}
@@ -11,6 +11,6 @@ returns c =
     let a = c.args.a in
     next _ _ _ (numeral (number a) ∷ ascii " " ∷ numeral (value a) ∷ []) ((10 ∷ []) ∷ [])
     (next _ _ _ (numeral (number a) ∷ ascii " " ∷ []) (numeral (value a) ∷ [])
-    (next _ _ _ (numeral (number a) ∷ []) (ascii " " ∷ []) (rw c.number.ensures at c.put_natural-p.ensures) (one _ _ _ c.put-q.ensures))
-    (rw c.value.ensures at c.put_natural-r.ensures))
-    (one _ _ _ c.put.ensures)
+    (next _ _ _ (numeral (number a) ∷ []) (ascii " " ∷ []) (rw c.number.ensures at c.put_natural.ensures) (one _ _ _ c.put.ensures))
+    (rw c.value.ensures at c.put_natural-2.ensures))
+    (one _ _ _ c.put-2.ensures)

@@ -1,6 +1,5 @@
--- `rescaling::put_reading` meets its contract: the arm says what is read. Assumes nothing.
-use mathlib.Core.Path.{sym, ap, ◌∙◌}
-use Rattle.exact.proofs.Z.{back32}
+-- The arm says what is read.
+use Rattle.std.proofs.Common.{◌≡◌, ◌∙◌, sym, ap, w32, to_z, of_z, rules}
 use Rattle.text.proofs.Pieces.{one, alike}
 use Rattle.rescaling.specs.Show.{number_line, reading_line}
 use Rattle.rescaling.proofs.put_reading.Goals as goal
@@ -16,7 +15,8 @@ returns-in-Under c = alike _ _ _ _ (ap reading_line (sym c.in-Under.is)) (one _ 
 pub returns-in-Number : goal.returns-in-Number
 unfolding reading_line
 returns-in-Number c =
-    alike _ _ _ _ (ap number_line (back32 c.in-Number.v c.in-Number.known_told-1-own.given.0.1) ∙ ap reading_line (sym c.in-Number.is)) c.put_number_line.ensures
+    let v : to_z w32 (of_z w32 c.in-Number.v) ≡ c.in-Number.v = search rules in
+    alike _ _ _ _ (ap number_line v ∙ ap reading_line (sym c.in-Number.is)) c.put_number_line.ensures
 
 pub returns-in-Over : goal.returns-in-Over
 unfolding reading_line

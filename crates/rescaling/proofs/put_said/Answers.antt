@@ -1,5 +1,5 @@
--- `rescaling::put_said` meets its contract: the arm says what the line is told. Assumes nothing.
-use mathlib.Core.Path.{refl, sym, ap}
+-- The arm says what the line is told.
+use Rattle.std.proofs.Common.{refl, sym, ap}
 use Rattle.text.specs.Output.{waiting, puts}
 use Rattle.text.proofs.Pieces.{one, alike}
 use Rattle.rescaling.specs.Show.{shown_of}
@@ -19,6 +19,4 @@ returns-in-Unknown c = alike _ _ _ _ (ap shown_of (sym c.in-Unknown.is)) (one _ 
 
 pub returns-in-Silence : goal.returns-in-Silence
 unfolding shown_of puts
-returns-in-Silence c =
-    let a = c.args in
-    alike (waiting a.o.at a.buf.now) _ _ _ (ap shown_of (sym c.in-Silence.is)) refl
+returns-in-Silence c = alike (waiting c.args.out.now) _ _ _ (ap shown_of (sym c.in-Silence.is)) refl

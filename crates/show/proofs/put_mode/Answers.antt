@@ -1,16 +1,9 @@
--- `show::put_mode` meets its contract: the arm says which mode it is. Assumes nothing.
-use mathlib.Core.Path.{sym, ap}
-use Rattle.show.specs.Show.{mode_words}
-use Rattle.text.proofs.Pieces.{one, alike}
-use borrow.Author.Rules.{rules}
+-- The outputs are a number that has no sign.
+use Rattle.exact.proofs.Z.{back64}
+use Rattle.signed.specs.Signed.{signed}
+use Rattle.show.specs.Show.{named, counted, mode_words}
 use Rattle.show.proofs.put_mode.Goals as goal
 
-pub returns-in-Automatic : goal.returns-in-Automatic
-unfolding mode_words
-returns-in-Automatic c =
-    alike _ _ _ _ (ap mode_words (sym c.in-Automatic.is)) (one _ _ _ c.put.ensures)
-
 pub returns-in-Manual : goal.returns-in-Manual
-unfolding mode_words
-returns-in-Manual c =
-    alike _ _ _ _ (ap mode_words (sym c.in-Manual.is)) c.put_count.ensures
+unfolding mode_words named counted signed
+returns-in-Manual c = rw c.in-Manual.is (rw (back64 c.from.result c.from.type_inv, c.from.ensures) at c.put_named.ensures)
