@@ -1,33 +1,17 @@
 -- The meter over bytes and lines, over plain values. Assumes nothing.
-use mathlib.Core.Path.{◌≡◌, refl, sym, ap, ap₂, ◌∙◌}
-use mathlib.Core.List.{List, []}
-use Prim.Native.Nat.{ℕ, ◌+◌, ◌≤◌, ◌<◌}
+use Rattle.std.proofs.Common.{◌≡◌, ◌∙◌, sym, ap, ap₂, ℕ, ◌+◌, ◌<◌, List, length, drop, get_or, Option, Some}
 use native.Mathlib.Numerals.{add-one}
-use lib.IntN.{ℤ}
-use lib.ListN.{length, take, drop, get_or}
 use lib.Seq.{drop-cons, drop-length}
-use Rattle.text.specs.Line.{kept_bytes, Heard, bytes, long, heard}
-use Rattle.text.specs.Output.{Waiting, puts}
-use Rattle.text.proofs.Lines.{heard_is}
-use Rattle.meter.specs.Meter.{Step, sampled}
-use Rattle.meter.specs.declared.Meter.{Meter}
+use Rattle.answer.specs.declared.Answer.{Answer}
+use Rattle.text.specs.Line.{Heard}
+use Rattle.text.specs.declared.output.Out.{Out}
+use Rattle.text.specs.Output.{Waiting, waiting, puts}
+use Rattle.meter.specs.Meter.{Step}
 use Rattle.meter.specs.declared.Outcome.{Outcome}
-use Rattle.bench_line.specs.Grammar.{judged}
+use Rattle.bench_line.specs.Grammar.{Asked, judged}
 use Rattle.bench_line.specs.Show.{shown_of}
-use Rattle.bench.specs.Bench.{sample_step, byte_step, bytes_on, as_told, answered, effect_by, effect, stand, stand_after, heard_by}
-use Rattle.bench_line.specs.declared.grammar.Parsed.{Parsed}
-use Rattle.bench.specs.declared.Told.{Told}
-
--- ---- a sample, whose outcome touches no reply
-
-module _ (m : Meter) (z : ℤ) (reply : List ℕ) where
-  pub sampled_told : (o : Outcome) → o ≡ sampled m z → as_told o ≡ (answered (sample_step m z reply)).told
-  unfolding sample_step
-  sampled_told o e = ap as_told e
-
-  pub sampled_reply : reply ≡ (answered (sample_step m z reply)).reply
-  unfolding sample_step
-  sampled_reply = refl
+use Rattle.bench.specs.Bench.{byte_step, bytes_on, step_by, effect_by, effect, program_after, stand, standing, heard_by}
+use Rattle.bench.specs.declared.Program.{Program}
 
 -- ---- bytes
 
@@ -48,22 +32,26 @@ bytes_out t s i e = ap (bytes_on t) (ap (λ (k : ℕ). drop k s) e ∙ drop-leng
 
 -- ---- a line
 
-abbrev pub text_of : Heard → List ℕ
-text_of (bytes l) = l
-text_of long = []
+-- the event of what a line asks: what it is told, and the program after it
+module _ (program self : Program) (h : Heard) (a : Asked) (o : Outcome) (is : Some a ≡ judged h)
+    (outcome : o ≡ (step_by program.meter program.reply a).outcome) where
+  pub told : Some o.answer ≡ (effect program.meter program.reply h).said
+  unfolding effect
+  told = ap (λ (x : Outcome). Some x.answer) outcome ∙ ap (λ (x : Option Asked). (effect_by program.meter program.reply x).said) is
 
-pub effects : (m : Meter) (reply : List ℕ) (h : Heard) (p : Parsed) → p ≡ judged h → effect_by m reply (text_of h) p ≡ effect m reply h
-unfolding effect judged
-effects m reply (bytes l) p e = ap (effect_by m reply l) e
-effects m reply long p e = ap (effect_by m reply []) e
-
-pub text_is : (line : List ℕ) (len : ℕ) → len ≤ kept_bytes → text_of (heard line len) ≡ take len line
-text_is line len h = ap text_of (heard_is line len h)
+  pub left : self.reply ≡ (step_by program.meter program.reply a).buffer → self.out ≡ program.out
+      → record { meter = o.meter; reply = self.reply; out = self.out } ≡ program_after program (effect program.meter program.reply h)
+  unfolding effect
+  left reply out =
+      ap (λ (x : Outcome). record { meter = x.meter; reply = self.reply; out = self.out }) outcome
+      ∙ ap₂ (λ (l : List ℕ) (w : Out). record { meter = (step_by program.meter program.reply a).outcome.meter; reply = l; out = w }) reply out
+      ∙ ap (λ (x : Option Asked). program_after program (effect_by program.meter program.reply x)) is
 
 -- what is printed leaves the meter and the reply as the event left them
-pub told_stand : (m : Meter) (reply : List ℕ) (out : Waiting) (h : Heard) (t : Told) (l : List ℕ) (v : Waiting)
-    → t ≡ (effect m reply h).told → l ≡ (effect m reply h).reply → v ≡ puts out (shown_of t.said l)
-    → stand t.meter l v ≡ heard_by (stand m reply out) h
+pub told_stand : (program after : Program) (h : Heard) (said : Option Answer) (v : Waiting)
+    → said ≡ (effect program.meter program.reply h).said → after ≡ program_after program (effect program.meter program.reply h)
+    → v ≡ puts (waiting after.out) (shown_of said after.reply) → stand after.meter after.reply v ≡ heard_by (standing program) h
 unfolding heard_by
-told_stand m reply out h t l v p q w =
-    ap (stand t.meter l) w ∙ ap₂ (λ (t : Told) (l : List ℕ). stand_after out (record { told = t; reply = l })) p q
+told_stand program after h said v p q w =
+    ap (stand after.meter after.reply) w
+    ∙ ap₂ (λ (s : Option Answer) (b : Program). stand b.meter b.reply (puts (waiting b.out) (shown_of s b.reply))) p q

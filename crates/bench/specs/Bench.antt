@@ -1,19 +1,14 @@
 -- What a line does to the meter and its reply buffer, and what is printed of it.
-use Rattle.std.specs.Prelude.{ℕ, true, List, [], ◌∷◌, ℤ, drop, get_or, replicate}
-use Rattle.std.specs.declared.io.Stdout.{Stdout}
-use Rattle.text.specs.Line.{Heard, bytes, long, all_lines, ran}
-use Rattle.text.specs.Output.{Waiting, waiting, puts}
+use Rattle.std.specs.Prelude.{ℕ, List, [], ◌∷◌, ℤ, drop, get_or, replicate, Option, Some, None}
+use Rattle.text.specs.Line.{Heard, all_lines, ran}
+use Rattle.text.specs.Output.{Waiting, waiting, nothing_waits, puts}
+use Rattle.answer.specs.declared.Answer.{Answer}
 use Rattle.config.specs.Bench.{bench_meter}
 use Rattle.meter.specs.Meter.{Step, powered_up, sampled, keyed, received}
 use Rattle.meter.specs.declared.Meter.{Meter}
-use Rattle.meter.specs.declared.Outcome.{Outcome}
-use Rattle.bench_line.specs.Grammar.{parsed}
+use Rattle.bench_line.specs.Grammar.{Asked, sample, key, chars, judged}
 use Rattle.bench_line.specs.Show.{shown_of}
-use Rattle.bench_line.specs.declared.grammar.Parsed.{Parsed}
-use Rattle.bench_line.specs.declared.grammar.Parsed.TheVariants.{Sample, Key, Bytes, Bad}
-use Rattle.bench_line.specs.declared.Said.TheVariants.{Answered, Unknown}
-use Rattle.bench.specs.declared.State.{State}
-use Rattle.bench.specs.declared.Told.{Told}
+use Rattle.bench.specs.declared.Program.{Program}
 
 -- ---- events, each at place 0 of the reply buffer
 
@@ -37,30 +32,34 @@ bytes_step m s reply = bytes_on (byte_step m (get_or s 0 0) reply) (drop 1 s)
 
 -- ---- a line
 
--- what it is told, with the meter after it, and the reply buffer after it
+-- what it is told, with the meter and the reply buffer after it
 pub record Effect : Type 0 where
-  pub told : Told
+  pub meter : Meter
+  pub said : Option Answer
   pub reply : List ℕ
 
-abbrev pub as_told : Outcome → Told
-as_told o = record { meter = o.meter; said = Answered o.answer }
-
 abbrev pub answered : Step → Effect
-answered t = record { told = as_told t.outcome; reply = t.buffer }
+answered t = record { meter = t.outcome.meter; said = Some t.outcome.answer; reply = t.buffer }
 
 -- no line of this program: no event at all
 abbrev pub unknown : Meter → List ℕ → Effect
-unknown m reply = record { told = record { meter = m; said = Unknown }; reply = reply }
+unknown m reply = record { meter = m; said = None; reply = reply }
 
-abbrev pub effect_by : Meter → List ℕ → List ℕ → Parsed → Effect
-effect_by m reply l (Sample v) = answered (sample_step m v reply)
-effect_by m reply l (Key v) = answered (key_step m v reply)
-effect_by m reply l Bytes = answered (bytes_step m (drop 2 l) reply)
-effect_by m reply l Bad = unknown m reply
+abbrev pub step_by : Meter → List ℕ → Asked → Step
+step_by m reply (sample v) = sample_step m v reply
+step_by m reply (key v) = key_step m v reply
+step_by m reply (chars s) = bytes_step m s reply
+
+abbrev pub effect_by : Meter → List ℕ → Option Asked → Effect
+effect_by m reply (Some a) = answered (step_by m reply a)
+effect_by m reply None = unknown m reply
 
 unfoldable pub effect : Meter → List ℕ → Heard → Effect
-effect m reply (bytes l) = effect_by m reply l (parsed l)
-effect m reply long = unknown m reply
+effect m reply h = effect_by m reply (judged h)
+
+-- the program after it, with nothing put out
+abbrev pub program_after : Program → Effect → Program
+program_after program x = record { meter = x.meter; reply = x.reply; out = program.out }
 
 -- ---- the stream
 
@@ -73,20 +72,15 @@ pub record Stand : Type 0 where
 abbrev pub stand : Meter → List ℕ → Waiting → Stand
 stand m reply out = record { meter = m; reply = reply; out = out }
 
--- where the program stands, with the room for what waits
-abbrev pub standing : State → List ℕ → List ℕ → Stand
-standing s reply room = stand s.meter reply (waiting s.out.at room)
+abbrev pub standing : Program → Stand
+standing program = stand program.meter program.reply (waiting program.out)
 
 abbrev pub stand_after : Waiting → Effect → Stand
-stand_after out x = stand x.told.meter x.reply (puts out (shown_of x.told.said x.reply))
+stand_after out x = stand x.meter x.reply (puts out (shown_of x.said x.reply))
 
 unfoldable pub heard_by : Stand → Heard → Stand
 heard_by s h = stand_after s.out (effect s.meter s.reply h)
 
--- where it starts: document 01's bench meter, no byte of a line, and nothing that waits
-abbrev pub begun : Stdout → State
-begun to = record { meter = (powered_up bench_meter).meter; len = 0; out = record { at = 0; ok = true; to = to } }
-
--- what waits after a whole stream, where the longest reply has room
-abbrev pub printed_of : List ℕ → List ℕ → Waiting
-printed_of room stream = (ran heard_by (stand (powered_up bench_meter).meter (replicate 163 0) (waiting 0 room)) (all_lines stream)).out
+-- what waits after a whole stream, from document 01's bench meter on, where the longest reply has room
+abbrev pub printed_of : List ℕ → Waiting
+printed_of stream = (ran heard_by (stand (powered_up bench_meter).meter (replicate 163 0) nothing_waits) (all_lines stream)).out

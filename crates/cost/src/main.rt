@@ -17,10 +17,12 @@ ghost use Rattle.std.specs.Prelude.{◌<◌, ◌≤◌, length};
 
 use alarm::Settings;
 use answer::Answer;
-use config::{Analog, Config, Scale, Source};
+use config::{Analog, Config, Scale, Source, Talking, Working};
 use meter::{Meter, Outcome};
+use std::array;
 use std::io::{Print, Read, Stdin, Stdout};
-use text::{KEPT, Natural, Number, Step};
+use text::Line;
+use total::Totalizer;
 
 // ---- the meter
 
@@ -37,60 +39,58 @@ fn alarm(on_delay: i32, off_delay: i32, low_acting: bool, latched: bool) -> Sett
 // The bench meter with 16 points on a curve that bends at each, four alarms of several kinds with delays, a capture time, and every line
 // printed.
 fn cost_config() -> Config {
-    let mut c = config::bench();
-    let mut scale = c.scale;
-    scale.step = 5;
-    scale.count = 16;
-    scale.inputs = [
-        0, 1000, 2000, 3000, 4000, 5000, 6000, 7000, 8000, 9000, 10000, 11000, 12000, 13000, 14000,
-        15000,
-    ];
-    scale.displays = [
-        0, 40, 150, 330, 580, 900, 1280, 1720, 2210, 2740, 3300, 3870, 4430, 4970, 5480, 6000,
-    ];
-    let mut working = c.working;
-    let mut totalizer = working.totalizer;
-    totalizer.low_cut = 0;
-    working.totalizer = totalizer;
-    working.capture = 1;
-    working.alarms = [
-        alarm(1, 1, false, false),
-        alarm(2, 2, false, false),
-        alarm(1, 0, false, true),
-        alarm(1, 1, true, false),
-    ];
-    let analog = Analog { low: 0, high: 6000 };
-    working.analog = analog;
-    let mut talking = c.talking;
-    let print = register::Print {
-        input: true,
-        extremes: true,
-        total: true,
-        setpoints: true,
-    };
-    talking.print = print;
-    c.scale = scale;
-    c.working = working;
-    c.talking = talking;
-    c.setpoints = [1000, 3000, 5000, 200];
-    c
+    let bench = config::bench();
+    Config {
+        scale: Scale {
+            source: Source::Points,
+            step: 5,
+            count: 16,
+            inputs: [
+                0, 1000, 2000, 3000, 4000, 5000, 6000, 7000, 8000, 9000, 10000, 11000, 12000,
+                13000, 14000, 15000,
+            ],
+            displays: [
+                0, 40, 150, 330, 580, 900, 1280, 1720, 2210, 2740, 3300, 3870, 4430, 4970, 5480,
+                6000,
+            ],
+        },
+        working: Working {
+            totalizer: Totalizer {
+                low_cut: 0,
+                ..bench.working.totalizer
+            },
+            capture: 1,
+            alarms: [
+                alarm(1, 1, false, false),
+                alarm(2, 2, false, false),
+                alarm(1, 0, false, true),
+                alarm(1, 1, true, false),
+            ],
+            analog: Analog { low: 0, high: 6000 },
+        },
+        talking: Talking {
+            print: register::Print {
+                input: true,
+                extremes: true,
+                total: true,
+                setpoints: true,
+            },
+            ..bench.talking
+        },
+        setpoints: [1000, 3000, 5000, 200],
+    }
 }
 
 // The same with a platinum sensor.
 fn sensor_config() -> Config {
-    let mut c = cost_config();
-    let points = c.scale;
-    let inputs = points.inputs;
-    let displays = points.displays;
-    let scale = Scale {
-        source: Source::Platinum,
-        step: points.step,
-        count: points.count,
-        inputs,
-        displays,
-    };
-    c.scale = scale;
-    c
+    let c = cost_config();
+    Config {
+        scale: Scale {
+            source: Source::Platinum,
+            ..c.scale
+        },
+        ..c
+    }
 }
 
 // ---- the events
@@ -122,31 +122,25 @@ fn following(at: usize, size: usize) -> usize
 fn mixed_samples(m: Meter, inputs: &[i32; 16], times: u64) -> Outcome {
     let mut o = m.sample(inputs[0]);
     let mut at = 0;
-    let mut left = times;
-    while left > 1 {
+    for _ in 1..times {
         at = following(at, 16);
         o = o.meter.sample(inputs[at]);
-        left -= 1;
     }
     o
 }
 
 fn samples(m: Meter, input: i32, times: u64) -> Outcome {
     let mut o = m.sample(input);
-    let mut left = times;
-    while left > 1 {
+    for _ in 1..times {
         o = o.meter.sample(input);
-        left -= 1;
     }
     o
 }
 
 fn keys(m: Meter, number: i32, buffer: &mut [u8], times: u64) -> Outcome {
-    let mut o = m.key(number, &mut *buffer, 0);
-    let mut left = times;
-    while left > 1 {
-        o = o.meter.key(number, &mut *buffer, 0);
-        left -= 1;
+    let mut o = m.key(number, buffer, 0);
+    for _ in 1..times {
+        o = o.meter.key(number, buffer, 0);
     }
     o
 }
@@ -154,13 +148,11 @@ fn keys(m: Meter, number: i32, buffer: &mut [u8], times: u64) -> Outcome {
 fn bytes(m: Meter, list: &[u8], buffer: &mut [u8], times: u64) -> Outcome
     requires { 0 < length list.now }
 {
-    let mut o = m.byte(list[0], &mut *buffer, 0);
+    let mut o = m.byte(list[0], buffer, 0);
     let mut at = 0;
-    let mut left = times;
-    while left > 1 {
+    for _ in 1..times {
         at = following(at, list.len());
-        o = o.meter.byte(list[at], &mut *buffer, 0);
-        left -= 1;
+        o = o.meter.byte(list[at], buffer, 0);
     }
     o
 }
@@ -170,32 +162,22 @@ const ROUNDS: usize = 128;
 
 // So many inputs, one in each segment by turns.
 fn by_turns(inputs: &[i32; 16]) -> [i32; ROUNDS] {
-    let mut list = [0; ROUNDS];
-    let mut i = 0;
-    while i < ROUNDS {
-        list[i] = inputs[i % 16];
-        i += 1;
-    }
-    list
+    array::from_fn(|i| inputs[i % 16])
 }
 
 // Read in bulk as often as they go into a number, and once at least.
 fn bulk_readings(m: Meter, inputs: &[i32], readings: &mut [i32], times: u64) -> Answer {
     let scale = m.config.scale;
-    let mut answer = bulk::read_all(scale, inputs, &mut *readings);
-    let mut left = times;
-    while left > ROUNDS as u64 {
-        answer = bulk::read_all(scale, inputs, &mut *readings);
-        left -= ROUNDS as u64;
+    let mut answer = bulk::read_all(scale, inputs, readings);
+    for _ in 0..times.saturating_sub(1) / ROUNDS as u64 {
+        answer = bulk::read_all(scale, inputs, readings);
     }
     answer
 }
 
 // A meter that has had one round of samples, so that it has a reading, a total, a max and a min to show.
 fn after_a_round(config: Config, inputs: &[i32; 16]) -> Meter {
-    let o = Meter::power_up(config);
-    let p = mixed_samples(o.meter, inputs, 16);
-    p.meter
+    mixed_samples(Meter::power_up(config).meter, inputs, 16).meter
 }
 
 fn started() -> Meter {
@@ -207,8 +189,7 @@ fn sensor_started() -> Meter {
 }
 
 fn not_started() -> Meter {
-    let o = Meter::power_up(config::nothing());
-    o.meter
+    Meter::power_up(config::nothing()).meter
 }
 
 // ---- what is printed
@@ -233,11 +214,9 @@ fn put_answer(to: Stdout, a: Answer, buffer: &[u8]) {
 
 // What the last event was answered, and the block that the meter then prints.
 fn put_outcome(to: Stdout, o: Outcome, buffer: &mut [u8]) {
-    let answer = o.answer;
-    put_answer(to, answer, &*buffer);
-    let p = o.meter.key(6, &mut *buffer, 0);
-    let printed = p.answer;
-    put_answer(to, printed, &*buffer);
+    put_answer(to, o.answer, buffer);
+    let printed = o.meter.key(6, buffer, 0).answer;
+    put_answer(to, printed, buffer);
 }
 
 // A reading of these inputs, of which none lies below zero.
@@ -253,10 +232,8 @@ fn put_reading(to: Stdout, n: i32) {
 // What reading in bulk was answered, and a round of the readings.
 fn put_readings(to: Stdout, a: Answer, readings: &[i32; ROUNDS]) {
     let _ = to.print(answer::number(a));
-    let mut i = 0;
-    while i < 16 {
-        put_reading(to, readings[i]);
-        i += 1;
+    for reading in &readings[..16] {
+        put_reading(to, *reading);
     }
     let _ = to.write_all(b"\n");
 }
@@ -273,28 +250,28 @@ fn numbered(to: Stdout, letter: u8, times: u64, number: i32, buffer: &mut [u8]) 
         b'S' => put_outcome(to, samples(started(), number, times), buffer),
         b'N' => put_outcome(to, samples(not_started(), number, times), buffer),
         b'K' => {
-            let o = keys(started(), number, &mut *buffer, times);
-            put_outcome(to, o, &mut *buffer);
+            let o = keys(started(), number, buffer, times);
+            put_outcome(to, o, buffer);
         }
         _ => put_unknown(to),
     }
 }
 
-fn with_number(to: Stdout, letter: u8, times: u64, number: Number, buffer: &mut [u8]) {
+fn with_number(to: Stdout, letter: u8, times: u64, number: Option<i32>, buffer: &mut [u8]) {
     match number {
-        Number::Is(v) => numbered(to, letter, times, v, buffer),
-        Number::Not => put_unknown(to),
+        Some(v) => numbered(to, letter, times, v, buffer),
+        None => put_unknown(to),
     }
 }
 
 // B, which has at least one byte.
 fn with_bytes(to: Stdout, times: u64, list: &[u8], buffer: &mut [u8]) {
-    if list.len() < 1 {
+    if list.is_empty() {
         put_unknown(to);
         return;
     }
-    let o = bytes(started(), list, &mut *buffer, times);
-    put_outcome(to, o, &mut *buffer);
+    let o = bytes(started(), list, buffer, times);
+    put_outcome(to, o, buffer);
 }
 
 // R and O, whose readings are in no meter.
@@ -322,10 +299,10 @@ fn events(to: Stdout, letter: u8, times: u64, rest: &[u8]) {
     }
 }
 
-fn counted(to: Stdout, letter: u8, times: Natural, rest: &[u8]) {
+fn counted(to: Stdout, letter: u8, times: Option<u64>, rest: &[u8]) {
     match times {
-        Natural::Is(n) => events(to, letter, n, rest),
-        Natural::Not => put_unknown(to),
+        Some(n) => events(to, letter, n, rest),
+        None => put_unknown(to),
     }
 }
 
@@ -345,24 +322,21 @@ fn carried_out(to: Stdout, s: &[u8]) {
     }
 }
 
-// The line of an array and a count, where it has ended there.
-fn stepped(to: Stdout, line: &[u8; KEPT], f: Step) {
-    let len = f.len;
-    if f.ended {
-        if len <= KEPT {
-            let s: &[u8] = line;
-            carried_out(to, &s[..len]);
-        }
-    }
-}
-
-// The lines of a block.
-fn lines(to: Stdout, block: &[u8], line: &mut [u8; KEPT]) {
+// The lines of a block, each where it has ended. One that is too long is no line of this program.
+#[tactic(auto, using(text::proofs::Laws::ahead))]
+fn lines(to: Stdout, block: &[u8]) {
+    let mut line = Line::new();
     let mut at = 0;
+    // a turn goes on by as many bytes as a line used
     while at < block.len() {
-        let f = text::feed(&mut *line, 0, &block[at..]);
-        at += f.used;
-        stepped(to, &*line, f);
+        let step = line.feed(&block[at..]);
+        at += step.used;
+        if step.ended {
+            if let Some(s) = line.text() {
+                carried_out(to, s);
+            }
+            line = Line::new();
+        }
     }
 }
 
@@ -371,6 +345,7 @@ fn filled(mut input: Stdin, block: &mut [u8]) -> usize
     ensures { result ≤ length block.new }
 {
     let mut n = 0;
+    // a turn goes on by as many bytes as came
     while n < block.len() {
         let came = input.read(&mut block[n..]).unwrap_or(0);
         if came == 0 {
@@ -383,7 +358,6 @@ fn filled(mut input: Stdin, block: &mut [u8]) -> usize
 
 fn main(rt: HostRuntime) {
     let mut block = [0u8; 4096];
-    let mut line = [0u8; KEPT];
     let n = filled(rt.stdin(), &mut block);
-    lines(rt.stdout(), &block[0..n], &mut line);
+    lines(rt.stdout(), &block[..n]);
 }

@@ -1,15 +1,15 @@
 // The worked example of "looking changes nothing": one excursion above a setpoint, polled 0, 10 and 1,000 times behind each sample.
 // Printed is the first alarm after each sample, 1 for on and 0 for off: of this core, and of the core before it, which counted an off
-// delay from the last poll. The example is `looking`'s own, and each printed state has a contract by its definition `lit`, so that its
-// theorem `OffDelay.always` speaks of these rows.
+// delay from the last poll. The example is `looking`'s own, and each printed state of this core has a contract by its definition `lit`,
+// so that its theorem `OffDelay.always` speaks of these rows.
 #![tactic(auto)]
 
-ghost use Rattle.std.specs.Prelude.{◌≡◌, ◌∷◌, ℤ, pos};
-ghost use Rattle.alarms.specs.Alarms.{alarm_at};
+ghost use Rattle.std.specs.Prelude.{◌≡◌, Bool, [], ◌∷◌, ℕ, pos};
+ghost use Rattle.reading.specs.declared.Reading.TheVariants.{Number};
 ghost use Rattle.instrument.specs.Instrument.{read};
 ghost use Rattle.looking.specs.History.{History, sample, byte, meter_after};
 ghost use Rattle.config.specs.Bench.{high};
-ghost use Rattle.looking.specs.Polls.{lent, poll, polls, bench, asking, lit};
+ghost use Rattle.looking.specs.Polls.{lent, poll, polls, bench, asking, excursion, lit};
 ghost use Rattle.excursion.specs.Old.{old_alarm, old_lit};
 ghost use Rattle.excursion.specs.Row.{digit, row_of};
 
@@ -17,6 +17,7 @@ use alarm::{Alarm, Settings};
 use config::Config;
 use meter::Meter;
 use reading::Reading;
+use std::array;
 use std::io::{Print, Stdout};
 
 // ---- the meter
@@ -38,133 +39,122 @@ fn settings(off_delay: i32) -> Settings
 fn bench_config() -> Config
     ensures { result ≡ bench }
 {
-    let mut c = config::bench();
-    let mut working = c.working;
-    working.alarms[0] = settings(2);
-    c.working = working;
-    c
+    let mut config = config::bench();
+    config.working.alarms[0] = settings(2);
+    config
 }
 
-// ---- this core, by its public calls: where the meter is the one that a history leaves, the longer history leaves what comes back
+// ---- what the example is carried out on: this core's meter, or the old core's alarm
 
-// One byte, with a buffer of 163 zeros lent for it.
-fn heard(m: Meter, b: u8) -> Meter
-    ensures { (h : History) → m ≡ meter_after bench h → result ≡ meter_after bench (byte b 0 lent ∷ h) }
-{
-    let mut buffer = [0u8; 163];
-    let o = m.byte(b, &mut buffer, 0);
-    o.meter
+// `after` is what a history leaves, so that where a value is the one that a history leaves, the longer history leaves what comes back.
+// `lit` is whether the first alarm is on after the example.
+trait Core: Copy {
+    ghost after: { History → Self };
+
+    ghost lit: { ℕ → ℕ → Bool };
+
+    // As it is before any event.
+    fn started() -> Self
+        ensures { result ≡ after [] };
+
+    // One byte, with a buffer of 163 zeros lent for it.
+    fn heard(self, b: u8) -> Self
+        ensures { (h : History) → self ≡ after h → result ≡ after (byte b 0 lent ∷ h) };
+
+    // A sample, by its input and by what that reads.
+    fn sampled(self, input: i32, reading: i32) -> Self
+        requires { read bench.scale input ≡ Number reading }
+        ensures { (h : History) → self ≡ after h → result ≡ after (sample input ∷ h) };
+
+    // Whether the first alarm is on.
+    fn is_lit(self) -> bool
+        ensures { (n k : ℕ) → self ≡ after (excursion n k) → result ≡ lit n k };
 }
+
+// This core, by its public calls.
+impl Core for Meter {
+    ghost after = { meter_after bench };
+
+    ghost lit = { lit };
+
+    fn started() -> Meter {
+        Meter::power_up(bench_config()).meter
+    }
+
+    fn heard(self, b: u8) -> Meter {
+        let mut buffer = [0; 163];
+        self.byte(b, &mut buffer, 0).meter
+    }
+
+    fn sampled(self, input: i32, _reading: i32) -> Meter {
+        self.sample(input).meter
+    }
+
+    fn is_lit(self) -> bool {
+        self.instrument.alarms[0].on
+    }
+}
+
+// The old core's alarm, as far as its fault goes: where a string ends while the alarm is on, its run begins again at 0.
+impl Core for Alarm {
+    ghost after = { old_alarm };
+
+    ghost lit = { old_lit };
+
+    fn started() -> Alarm {
+        alarm::off(100)
+    }
+
+    fn heard(self, b: u8) -> Alarm {
+        match b {
+            b'*' | b'$' if self.on => Alarm { run: 0, ..self },
+            _ => self,
+        }
+    }
+
+    fn sampled(self, _input: i32, reading: i32) -> Alarm {
+        alarm::sampled(settings(2), self, Reading::Number(reading))
+    }
+
+    fn is_lit(self) -> bool {
+        self.on
+    }
+}
+
+// ---- the example, over either
 
 // The string that asks node 5 for its first setpoint, sent whole.
-fn polled(m: Meter) -> Meter
-    ensures { (h : History) → m ≡ meter_after bench h → result ≡ meter_after bench (poll asking h) }
+fn polled<C: Core>(core: C) -> C
+    ensures { (h : History) → core ≡ C.after h → result ≡ C.after (poll asking h) }
 {
-    let n = heard(m, b'N');
-    let five = heard(n, b'5');
-    let t = heard(five, b'T');
-    let e = heard(t, b'E');
-    heard(e, b'*')
+    core.heard(b'N')
+        .heard(b'5')
+        .heard(b'T')
+        .heard(b'E')
+        .heard(b'*')
 }
 
-// So many polls.
-fn polled_often(m: Meter, times: usize) -> Meter
-    ensures { (h : History) → m ≡ meter_after bench h → result ≡ meter_after bench (polls asking times h) }
+// A sample, and so many polls behind it.
+fn sampled<C: Core>(core: C, input: i32, reading: i32, times: usize) -> C
+    requires { read bench.scale input ≡ Number reading }
+    ensures { (h : History) → core ≡ C.after h → result ≡ C.after (polls asking times (sample input ∷ h)) }
 {
-    let mut after = m;
-    let mut i = 0;
-    while i < times {
-        after = polled(after);
-        i += 1;
+    let mut core = core.sampled(input, reading);
+    for _ in 0..times {
+        core = polled(core);
     }
-    after
+    core
 }
 
-// A sample, and the polls behind it.
-fn sampled(m: Meter, input: i32, times: usize) -> Meter
-    ensures { (h : History) → m ≡ meter_after bench h → result ≡ meter_after bench (polls asking times (sample input ∷ h)) }
+// Whether the first alarm is on after one sample that reads 120 and so many that read 80, with so many polls behind each.
+fn lit<C: Core>(times: usize, below: usize) -> bool
+    ensures { result ≡ C.lit times below }
 {
-    let o = m.sample(input);
-    polled_often(o.meter, times)
-}
-
-// Whether the first alarm is on.
-fn is_lit(m: Meter) -> bool
-    ensures { result ≡ (alarm_at m.instrument.alarms 0).on }
-{
-    let i = m.instrument;
-    let alarms = i.alarms;
-    let first = alarms[0];
-    first.on
-}
-
-// Whether it is after one sample that reads 120 and so many that read 80, with so many polls behind each.
-fn lit(times: usize, below: usize) -> bool
-    ensures { result ≡ lit times below }
-{
-    let o = Meter::power_up(bench_config());
-    let mut m = sampled(o.meter, 60, times);
-    let mut i = 0;
-    while i < below {
-        m = sampled(m, 40, times);
-        i += 1;
+    let mut core = sampled(C::started(), 60, 120, times);
+    for _ in 0..below {
+        core = sampled(core, 40, 80, times);
     }
-    is_lit(m)
-}
-
-// ---- the old core's alarm, as far as its fault goes, over the same histories
-
-// A poll: while the alarm is on its run begins again at 0.
-fn old_polled(a: Alarm) -> Alarm
-    ensures { (h : History) → a ≡ old_alarm h → result ≡ old_alarm (poll asking h) }
-{
-    if a.on {
-        return Alarm {
-            setpoint: a.setpoint,
-            on: true,
-            run: 0,
-        };
-    }
-    a
-}
-
-// So many polls.
-fn old_polled_often(a: Alarm, times: usize) -> Alarm
-    ensures { (h : History) → a ≡ old_alarm h → result ≡ old_alarm (polls asking times h) }
-{
-    let mut after = a;
-    let mut i = 0;
-    while i < times {
-        after = old_polled(after);
-        i += 1;
-    }
-    after
-}
-
-// A sample by its reading, and the polls behind it.
-fn old_sampled(a: Alarm, reading: i32, times: usize) -> Alarm
-    ensures { (h : History) (x : ℤ) → a ≡ old_alarm h → read bench.scale x ≡ Reading.Number reading → result ≡ old_alarm (polls asking times (sample x ∷ h)) }
-{
-    let moved = alarm::sampled(settings(2), a, Reading::Number(reading));
-    old_polled_often(moved, times)
-}
-
-// The same excursion.
-fn old_lit(times: usize, below: usize) -> bool
-    ensures { result ≡ old_lit times below }
-{
-    let off = Alarm {
-        setpoint: 100,
-        on: false,
-        run: 0,
-    };
-    let mut a = old_sampled(off, 120, times);
-    let mut i = 0;
-    while i < below {
-        a = old_sampled(a, 80, times);
-        i += 1;
-    }
-    a.on
+    core.is_lit()
 }
 
 // ---- what is printed
@@ -175,53 +165,17 @@ fn digit(on: bool) -> u8
     if on { b'1' } else { b'0' }
 }
 
-// One state as it is printed, of this core and of the old one.
-fn state(times: usize, below: usize) -> u8
-    ensures { result ≡ digit (lit times below) }
+// The states after each of seven samples.
+fn row<C: Core>(times: usize) -> [u8; 7]
+    ensures { result ≡ row_of (C.lit times) }
 {
-    digit(lit(times, below))
-}
-
-fn old_state(times: usize, below: usize) -> u8
-    ensures { result ≡ digit (old_lit times below) }
-{
-    digit(old_lit(times, below))
-}
-
-// This core's states after each of seven samples.
-fn row(times: usize) -> [u8; 7]
-    ensures { result ≡ row_of (lit times) }
-{
-    [
-        state(times, 0),
-        state(times, 1),
-        state(times, 2),
-        state(times, 3),
-        state(times, 4),
-        state(times, 5),
-        state(times, 6),
-    ]
-}
-
-// The old core's.
-fn old_row(times: usize) -> [u8; 7]
-    ensures { result ≡ row_of (old_lit times) }
-{
-    [
-        old_state(times, 0),
-        old_state(times, 1),
-        old_state(times, 2),
-        old_state(times, 3),
-        old_state(times, 4),
-        old_state(times, 5),
-        old_state(times, 6),
-    ]
+    array::from_fn(|below| digit(lit::<C>(times, below)))
 }
 
 fn put_line(to: Stdout, times: usize) {
-    let _ = to.write_all(&row(times));
+    let _ = to.write_all(&row::<Meter>(times));
     let _ = to.write_all(b"    ");
-    let _ = to.write_all(&old_row(times));
+    let _ = to.write_all(&row::<Alarm>(times));
     let _ = to.write_all(b"    ");
     let _ = to.print(times as u64);
     let _ = to.write_all(b"\n");

@@ -1,9 +1,9 @@
 -- What a line does to the meter and its buffer, and what is shown of it.
-use Rattle.std.specs.Prelude.{ℕ, true, List, [], ◌∷◌, ◌++◌, ℤ, length, replicate}
-use Rattle.std.specs.declared.io.Stdout.{Stdout}
+use Rattle.std.specs.Prelude.{ℕ, List, [], ◌∷◌, ◌++◌, ℤ, length, replicate, Option, Some, None}
 use Rattle.text.specs.Line.{Heard, all_lines, ran}
-use Rattle.text.specs.Output.{Waiting, waiting, puts}
+use Rattle.text.specs.Output.{Waiting, waiting, nothing_waits, puts}
 use Rattle.register.specs.Bytes.{ascii}
+use Rattle.answer.specs.declared.Answer.{Answer}
 use Rattle.config.specs.declared.Config.{Config}
 use Rattle.meter.specs.Meter.{Step, not_started, powered_up, sampled, keyed, received}
 use Rattle.meter.specs.declared.Meter.{Meter}
@@ -11,11 +11,8 @@ use Rattle.meter.specs.declared.Outcome.{Outcome}
 use Rattle.record.specs.Record.{event_heard, read_heard}
 use Rattle.record.specs.Configuration.{config_of}
 use Rattle.record.specs.declared.Event.{Event}
-use Rattle.record.specs.declared.Event.TheVariants.{Configuration, Sample, Key, Byte, Bad}
-use Rattle.replay.specs.declared.Said.{Said}
-use Rattle.replay.specs.declared.Said.TheVariants.{PoweredUp, Answered, Unknown}
-use Rattle.replay.specs.declared.State.{State}
-use Rattle.replay.specs.declared.Told.{Told}
+use Rattle.record.specs.declared.Event.TheVariants.{Configuration, Sample, Key, Byte}
+use Rattle.replay.specs.declared.Program.{Program}
 use Rattle.show.specs.Show.{unwritten, power_line, event_line}
 
 -- ---- events
@@ -38,7 +35,18 @@ byte_step m b place buffer = received m b buffer place
 
 -- ---- a line
 
--- what is shown of it, with the meter after it, and the buffer after it
+-- what is shown of it: the answer of a configuration, or an event's with the whole state, or that it is no line of a history
+pub data Said : Type 0 where
+  PoweredUp : Answer → Said
+  Answered : Answer → Said
+  Unknown : Said
+
+-- that, with the meter after it
+pub record Told : Type 0 where
+  pub meter : Meter
+  pub said : Said
+
+-- and the buffer after it
 pub record Effect : Type 0 where
   pub told : Told
   pub buffer : List ℕ
@@ -61,12 +69,12 @@ answered t = record { told = as_told t.outcome; buffer = t.buffer }
 abbrev pub unknown : Meter → List ℕ → Effect
 unknown m buffer = record { told = record { meter = m; said = Unknown }; buffer = buffer }
 
-abbrev pub effect_by : Meter → List ℕ → List ℤ → Event → Effect
-effect_by m buffer read Configuration = powered (power_step (config_of read) buffer)
-effect_by m buffer read (Sample n) = answered (sample_step m n buffer)
-effect_by m buffer read (Key n place) = answered (key_step m n place buffer)
-effect_by m buffer read (Byte b place) = answered (byte_step m b place buffer)
-effect_by m buffer read Bad = unknown m buffer
+abbrev pub effect_by : Meter → List ℕ → List ℤ → Option Event → Effect
+effect_by m buffer read (Some Configuration) = powered (power_step (config_of read) buffer)
+effect_by m buffer read (Some (Sample n)) = answered (sample_step m n buffer)
+effect_by m buffer read (Some (Key n place)) = answered (key_step m n place buffer)
+effect_by m buffer read (Some (Byte b place)) = answered (byte_step m b place buffer)
+effect_by m buffer read None = unknown m buffer
 
 unfoldable pub effect : Meter → List ℕ → Heard → Effect
 effect m buffer h = effect_by m buffer (read_heard h) (event_heard h)
@@ -91,9 +99,8 @@ pub record Stand : Type 0 where
 abbrev pub stand : Meter → List ℕ → Waiting → Stand
 stand m buffer out = record { meter = m; buffer = buffer; out = out }
 
--- where the program stands, with the bytes of what waits
-abbrev pub standing : State → List ℕ → List ℕ → Stand
-standing s buffer bytes = stand s.meter buffer (waiting s.out.at bytes)
+abbrev pub standing : Program → Stand
+standing program = stand program.meter program.buffer (waiting program.out)
 
 abbrev pub stand_after : Waiting → Effect → Stand
 stand_after out x = stand x.told.meter x.buffer (puts out (printed x))
@@ -101,10 +108,10 @@ stand_after out x = stand x.told.meter x.buffer (puts out (printed x))
 unfoldable pub heard_by : Stand → Heard → Stand
 heard_by s h = stand_after s.out (effect s.meter s.buffer h)
 
--- where it starts: a meter not started, no byte of a line, and nothing that waits
-abbrev pub begun : Stdout → State
-begun to = record { meter = not_started; len = 0; out = record { at = 0; ok = true; to = to } }
+-- where it starts: a meter not started, a buffer of 170 bytes in which nothing is written, and nothing that waits
+abbrev pub begun : Stand
+begun = stand not_started (replicate 170 unwritten) nothing_waits
 
--- what waits after a whole stream, from a buffer of 170 bytes on in which nothing is written
-abbrev pub printed_of : List ℕ → List ℕ → Waiting
-printed_of room stream = (ran heard_by (stand not_started (replicate 170 unwritten) (waiting 0 room)) (all_lines stream)).out
+-- what waits after a whole stream
+abbrev pub printed_of : List ℕ → Waiting
+printed_of stream = (ran heard_by begun (all_lines stream)).out

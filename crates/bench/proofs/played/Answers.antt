@@ -1,10 +1,16 @@
--- `bench::played` meets its contract: the blocks that were read make one stream, and its last line counts. Assumes nothing.
-use mathlib.Core.Path.{refl, ap, ◌∙◌}
-use Rattle.text.proofs.Streams.{whole}
-use Rattle.bench.specs.Bench.{Stand, heard_by}
+-- The program begins with the bench meter and nothing that waits.
+use Rattle.std.proofs.Common.{◌∙◌, ap, ap₂, replicate}
+use Rattle.meter.specs.Meter.{powered_up}
+use Rattle.meter.specs.declared.Meter.{Meter}
+use Rattle.meter.specs.declared.Outcome.{Outcome}
+use Rattle.text.specs.Line.{all_lines, ran}
+use Rattle.text.specs.Output.{Waiting}
+use Rattle.bench.specs.Bench.{Stand, stand, heard_by}
 use Rattle.bench.proofs.played.Goals as goal
 
 pub returns : goal.returns
 returns c =
-    let streamed = rw c.begun.ensures at c.run-s.ensures in
-    (streamed.stream, ap (λ (x : Stand). x.out) (c.end-e.ensures ∙ whole heard_by refl streamed))
+    let all = c.hear_all.ensures in
+    let meter = ap (λ (o : Outcome). o.meter) (c.power_up.ensures ∙ ap powered_up c.bench.ensures) in
+    let begun = ap₂ (λ (m : Meter) (w : Waiting). stand m (replicate 163 0) w) meter c.new.ensures.waits in
+    (all.0, ap (λ (x : Stand). x.out) (all.1 ∙ ap (λ (s : Stand). ran heard_by s (all_lines all.0)) begun))

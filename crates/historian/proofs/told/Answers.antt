@@ -1,11 +1,12 @@
--- `historian::told` meets its contract: the blocks that were read make one stream, and its last line counts. Assumes nothing.
-use mathlib.Core.Path.{refl, ◌∙◌}
-use Rattle.text.proofs.Streams.{whole}
+-- `historian::told` meets its contract: what waits after all lines is what is printed of them. Assumes nothing.
+use Rattle.std.proofs.Common.{◌∙◌, ap}
+use Rattle.text.specs.Line.{ran, all_lines}
+use Rattle.text.specs.Output.{Waiting}
 use Rattle.historian.specs.Historian.{heard_by}
 use Rattle.historian.proofs.Stream.{all_shown_lem}
 use Rattle.historian.proofs.told.Goals as goal
 
 pub returns : goal.returns
 returns c =
-    let streamed = c.run-s.ensures in
-    (streamed.stream, c.end-e.ensures ∙ whole heard_by refl streamed ∙ all_shown_lem _ _)
+    let stream = c.hear_all.ensures.0 in
+    (stream, c.hear_all.ensures.1 ∙ ap (λ (w : Waiting). ran heard_by w (all_lines stream)) c.new.ensures.waits ∙ all_shown_lem _ _)

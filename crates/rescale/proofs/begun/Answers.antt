@@ -1,5 +1,0 @@
--- `rescale::begun` meets its contract: the scale is the one with no segment. Assumes nothing.
-use Rattle.rescale.proofs.begun.Goals as goal
-
-pub returns : goal.returns
-returns c = rw c.none-scale.ensures
