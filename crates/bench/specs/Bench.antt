@@ -1,5 +1,6 @@
 -- What a line does to the meter and its reply buffer, and what is printed of it.
 use Rattle.std.specs.Prelude.{ℕ, List, [], ◌∷◌, ℤ, drop, get_or, replicate, Option, Some, None}
+use denote.MutBor.{MutBor}
 use Rattle.text.specs.Line.{Heard, all_lines, ran}
 use Rattle.text.specs.Output.{Waiting, waiting, nothing_waits, puts}
 use Rattle.answer.specs.declared.Answer.{Answer}
@@ -82,5 +83,5 @@ unfoldable pub heard_by : Stand → Heard → Stand
 heard_by s h = stand_after s.out (effect s.meter s.reply h)
 
 -- what waits after a whole stream, from document 01's bench meter on, where the longest reply has room
-abbrev pub printed_of : List ℕ → Waiting
-printed_of stream = (ran heard_by (stand (powered_up bench_meter).meter (replicate 163 0) nothing_waits) (all_lines stream)).out
+abbrev pub printed_of : MutBor (List ℕ) → List ℕ → Waiting
+printed_of room stream = (ran heard_by (stand (powered_up bench_meter).meter (replicate 163 0) (nothing_waits room)) (all_lines stream)).out

@@ -19,10 +19,10 @@ use text::stream::Hears;
 
 // What goes on from line to line: the meter, its reply, and the output.
 #[derive(Drop)]
-struct Program {
+struct Program<'a> {
     meter: Meter,
     reply: [u8; 163],
-    out: Out,
+    out: Out<'a>,
 }
 
 fn key(m: Meter, number: i32, reply: &mut [u8]) -> Outcome
@@ -52,7 +52,7 @@ fn all_bytes(m: Meter, s: &[u8], reply: &mut [u8]) -> Outcome
     o
 }
 
-impl Program {
+impl<'a> Program<'a> {
     // A whole line: the answer of its last event. A line that is none of this program has no event.
     fn event(&mut self, line: &Line) -> Option<Answer>
         ensures value { result ≡ (effect self.old.meter self.old.reply (heard line.now)).said }
@@ -68,14 +68,14 @@ impl Program {
     }
 }
 
-impl Hears for Program {
+impl<'a> Hears for Program<'a> {
     ghost Stand = { Stand };
 
     ghost standing = { standing };
 
     ghost heard_by = { heard_by };
 
-    ghost writes = { λ program. program.out.ok };
+    ghost writes = { λ program. program.out.pending.ok };
 
     // A line that has ended: its event, and what it is told.
     fn hear(&mut self, line: &Line) {
@@ -89,20 +89,23 @@ impl Hears for Program {
 }
 
 // The bench meter over the whole of standard input, whatever it is: what waits is what is printed of all its lines.
-fn played(input: Stdin, to: Stdout) -> Program
-    ensures { (stream : List ℕ) × (waiting result.out ≡ printed_of stream) }
+fn played<'a>(input: Stdin, to: Stdout, buf: &'a mut [u8]) -> Program<'a>
+    ensures { (stream : List ℕ) × (waiting result.out ≡ printed_of buf.entry stream) }
 {
     let mut program = Program {
         meter: Meter::power_up(config::bench()).meter,
         reply: [0; 163],
-        out: Out::new(to),
+        out: Out::new(buf, to),
     };
-    text::stream::hear_all(&mut program, input);
+    let mut line = Line::new();
+    text::stream::run(&mut program, &mut line, input);
+    text::stream::end(&mut program, &line);
     program
 }
 
 fn main(rt: HostRuntime) {
-    let mut program = played(rt.stdin(), rt.stdout());
+    let mut buf = io::large_buffer();
+    let mut program = played(rt.stdin(), rt.stdout(), &mut buf);
     program.out.flush();
     if !program.out.is_ok() {
         let _ = rt.stderr().write_all(b"a write failed\n");

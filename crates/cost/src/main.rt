@@ -335,7 +335,7 @@ fn lines(to: Stdout, block: &[u8]) {
             if let Some(s) = line.text() {
                 carried_out(to, s);
             }
-            line = Line::new();
+            line.clear();
         }
     }
 }

@@ -16,18 +16,18 @@ use text::stream::Hears;
 
 // What goes on from line to line: the output alone.
 #[derive(Drop)]
-struct Program {
-    out: Out,
+struct Program<'a> {
+    out: Out<'a>,
 }
 
-impl Hears for Program {
+impl<'a> Hears for Program<'a> {
     ghost Stand = { Waiting };
 
     ghost standing = { standing };
 
     ghost heard_by = { heard_by };
 
-    ghost writes = { λ program. program.out.ok };
+    ghost writes = { λ program. program.out.pending.ok };
 
     // A line that has ended: what is printed of it.
     #[tactic(auto, unfolding(crate::specs::Historian::heard_by))]
@@ -41,16 +41,21 @@ impl Hears for Program {
 }
 
 // The whole of standard input, whatever it is: what waits is what is printed of all its lines.
-fn told(input: Stdin, to: Stdout) -> Program
-    ensures { (stream : List ℕ) × (waiting result.out ≡ printed_of stream) }
+fn told<'a>(input: Stdin, to: Stdout, buf: &'a mut [u8]) -> Program<'a>
+    ensures { (stream : List ℕ) × (waiting result.out ≡ printed_of buf.entry stream) }
 {
-    let mut program = Program { out: Out::new(to) };
-    text::stream::hear_all(&mut program, input);
+    let mut program = Program {
+        out: Out::new(buf, to),
+    };
+    let mut line = Line::new();
+    text::stream::run(&mut program, &mut line, input);
+    text::stream::end(&mut program, &line);
     program
 }
 
 fn main(rt: HostRuntime) {
-    let mut program = told(rt.stdin(), rt.stdout());
+    let mut buf = io::large_buffer();
+    let mut program = told(rt.stdin(), rt.stdout(), &mut buf);
     program.out.flush();
     if !program.out.is_ok() {
         let _ = rt.stderr().write_all(b"a write failed\n");

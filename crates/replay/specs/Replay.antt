@@ -1,5 +1,6 @@
 -- What a line does to the meter and its buffer, and what is shown of it.
 use Rattle.std.specs.Prelude.{ℕ, List, [], ◌∷◌, ◌++◌, ℤ, length, replicate, Option, Some, None}
+use denote.MutBor.{MutBor}
 use Rattle.text.specs.Line.{Heard, all_lines, ran}
 use Rattle.text.specs.Output.{Waiting, waiting, nothing_waits, puts}
 use Rattle.register.specs.Bytes.{ascii}
@@ -109,9 +110,9 @@ unfoldable pub heard_by : Stand → Heard → Stand
 heard_by s h = stand_after s.out (effect s.meter s.buffer h)
 
 -- where it starts: a meter not started, a buffer of 170 bytes in which nothing is written, and nothing that waits
-abbrev pub begun : Stand
-begun = stand not_started (replicate 170 unwritten) nothing_waits
+abbrev pub begun : MutBor (List ℕ) → Stand
+begun room = stand not_started (replicate 170 unwritten) (nothing_waits room)
 
 -- what waits after a whole stream
-abbrev pub printed_of : List ℕ → Waiting
-printed_of stream = (ran heard_by begun (all_lines stream)).out
+abbrev pub printed_of : MutBor (List ℕ) → List ℕ → Waiting
+printed_of room stream = (ran heard_by (begun room) (all_lines stream)).out

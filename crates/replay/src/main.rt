@@ -5,7 +5,7 @@
 // Standard input is read in blocks, and standard output written in blocks, so the memory is the same for any input.
 #![tactic(auto, using(record::proofs::Meaning::configured), unfolding(text::specs::Output::puts, crate::specs::Replay::filled, crate::specs::Replay::power_step, crate::specs::Replay::sample_step, crate::specs::Replay::key_step, crate::specs::Replay::byte_step, crate::specs::Replay::effect, crate::specs::Replay::shown_of, crate::specs::Replay::heard_by))]
 
-ghost use Rattle.std.specs.Prelude.{ℕ, ◌≡◌, List};
+ghost use Rattle.std.specs.Prelude.{ℕ, ◌≡◌, List, true};
 ghost use Rattle.text.specs.Line.{heard};
 ghost use Rattle.text.specs.Output.{waiting};
 ghost use Rattle.meter.specs.Meter.{step};
@@ -25,23 +25,25 @@ const ROOM: usize = 170;
 
 // What goes on from line to line: the meter, the words of a configuration, the reply buffer, and the output.
 #[derive(Drop)]
-struct Program {
+struct Program<'a> {
     meter: Meter,
     settings: [i32; WORDS],
     buffer: [u8; ROOM],
-    out: Out,
+    out: Out<'a>,
 }
 
-impl Program {
-    // A meter not started, and nothing that waits.
-    fn new(to: Stdout) -> Program
-        ensures { standing result ≡ begun }
+impl<'a> Program<'a> {
+    // A meter not started, and nothing that waits; no write has failed.
+    fn new(buf: &'a mut [u8], to: Stdout) -> Program<'a>
+        ensures stand { standing result ≡ begun buf.entry }
+        ensures is_ok { result.out.pending.ok ≡ true }
+        ensures stream { result.out.pending.to ≡ to }
     {
         Program {
             meter: Meter::power_up(config::nothing()).meter,
             settings: [0; WORDS],
             buffer: [UNWRITTEN; ROOM],
-            out: Out::new(to),
+            out: Out::new(buf, to),
         }
     }
 
@@ -64,14 +66,14 @@ impl Program {
     }
 }
 
-impl Hears for Program {
+impl<'a> Hears for Program<'a> {
     ghost Stand = { Stand };
 
     ghost standing = { standing };
 
     ghost heard_by = { heard_by };
 
-    ghost writes = { λ program. program.out.ok };
+    ghost writes = { λ program. program.out.pending.ok };
 
     fn hear(&mut self, line: &Line) {
         match record::judge(line, &mut self.settings) {
@@ -98,16 +100,19 @@ impl Hears for Program {
 }
 
 // The whole of standard input, whatever it is: what waits is what is printed of all its lines.
-fn played(input: Stdin, to: Stdout) -> Program
-    ensures { (stream : List ℕ) × (waiting result.out ≡ printed_of stream) }
+fn played<'a>(input: Stdin, to: Stdout, buf: &'a mut [u8]) -> Program<'a>
+    ensures { (stream : List ℕ) × (waiting result.out ≡ printed_of buf.entry stream) }
 {
-    let mut program = Program::new(to);
-    text::stream::hear_all(&mut program, input);
+    let mut program = Program::new(buf, to);
+    let mut line = Line::new();
+    text::stream::run(&mut program, &mut line, input);
+    text::stream::end(&mut program, &line);
     program
 }
 
 fn main(rt: HostRuntime) {
-    let mut program = played(rt.stdin(), rt.stdout());
+    let mut buf = io::large_buffer();
+    let mut program = played(rt.stdin(), rt.stdout(), &mut buf);
     program.out.flush();
     if !program.out.is_ok() {
         let _ = rt.stderr().write_all(b"a write failed\n");

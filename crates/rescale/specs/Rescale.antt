@@ -2,6 +2,7 @@
 -- which is said by the configuration and knows no state of the program (`printed_of`). The first is the contract of what
 -- hears a line, the second that of the program; proofs/Stream joins them.
 use Rattle.std.specs.Prelude.{ℕ, cond, List}
+use denote.MutBor.{MutBor}
 use Rattle.text.specs.Line.{Heard, all_lines}
 use Rattle.text.specs.Output.{Waiting, waiting, nothing_waits, puts}
 use Rattle.rescaling.specs.Show.{shown_of, all_shown}
@@ -33,5 +34,5 @@ unfoldable pub heard_by : Stand → Heard → Stand
 heard_by s h = cond (awaits s.mode) (opened_at s.out (opened h)) (told_at s h)
 
 -- what waits after a whole stream
-abbrev pub printed_of : List ℕ → Waiting
-printed_of stream = puts nothing_waits (all_shown (all_lines stream))
+abbrev pub printed_of : MutBor (List ℕ) → List ℕ → Waiting
+printed_of room stream = puts (nothing_waits room) (all_shown (all_lines stream))

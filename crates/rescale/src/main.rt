@@ -7,8 +7,10 @@
 #![tactic(auto)]
 
 ghost use Rattle.std.specs.Prelude.{◌≡◌, List, ℕ};
+ghost use Rattle.text.specs.Line.{heard};
 ghost use Rattle.text.specs.Output.{waiting};
-ghost use Rattle.rescale.specs.Rescale.{Stand, standing, heard_by, printed_of};
+ghost use Rattle.rescaling.specs.Held.{opened};
+ghost use Rattle.rescale.specs.Rescale.{Stand, standing, opened_at, heard_by, printed_of};
 
 use record::WORDS;
 use rescaling::Mode;
@@ -20,27 +22,37 @@ use text::stream::Hears;
 // What goes on from line to line: what the first line has made of the program, and the output. The settings have room for those of a
 // configuration. A later line changes nothing but the output.
 #[derive(Drop)]
-struct Program {
+struct Program<'a> {
     mode: Mode,
     settings: [i32; WORDS],
-    out: Out,
+    out: Out<'a>,
 }
 
-impl Hears for Program {
+impl<'a> Program<'a> {
+    // The first line. It comes once and stands by itself, so that no later line makes room for what it needs.
+    #[inline(never)]
+    fn open(&mut self, line: &Line)
+        ensures { standing self.new ≡ opened_at (waiting self.old.out) (opened (heard line.now)) }
+    {
+        let opened = rescaling::first(line, &mut self.settings);
+        self.mode = opened.mode;
+        rescaling::put_said(&mut self.out, opened.said);
+    }
+}
+
+impl<'a> Hears for Program<'a> {
     ghost Stand = { Stand };
 
     ghost standing = { standing };
 
     ghost heard_by = { heard_by };
 
-    ghost writes = { λ program. program.out.ok };
+    ghost writes = { λ program. program.out.pending.ok };
 
     // The first line decides for all the others.
     fn hear(&mut self, line: &Line) {
         if rescaling::awaits(&self.mode) {
-            let opened = rescaling::first(line, &mut self.settings);
-            self.mode = opened.mode;
-            rescaling::put_said(&mut self.out, opened.said);
+            self.open(line);
         } else {
             rescaling::put_said(&mut self.out, rescaling::told(&self.mode, line));
         }
@@ -52,20 +64,23 @@ impl Hears for Program {
 }
 
 // The whole of standard input, whatever it is: what waits is what is printed of all its lines, by the configuration.
-fn rescaled(input: Stdin, to: Stdout) -> Program
-    ensures { (stream : List ℕ) × (waiting result.out ≡ printed_of stream) }
+fn rescaled<'a>(input: Stdin, to: Stdout, buf: &'a mut [u8]) -> Program<'a>
+    ensures { (stream : List ℕ) × (waiting result.out ≡ printed_of buf.entry stream) }
 {
     let mut program = Program {
         mode: Mode::Awaiting,
         settings: [0; WORDS],
-        out: Out::new(to),
+        out: Out::new(buf, to),
     };
-    text::stream::hear_all(&mut program, input);
+    let mut line = Line::new();
+    text::stream::run(&mut program, &mut line, input);
+    text::stream::end(&mut program, &line);
     program
 }
 
 fn main(rt: HostRuntime) {
-    let mut program = rescaled(rt.stdin(), rt.stdout());
+    let mut buf = io::large_buffer();
+    let mut program = rescaled(rt.stdin(), rt.stdout(), &mut buf);
     program.out.flush();
     if !program.out.is_ok() {
         let _ = rt.stderr().write_all(b"a write failed\n");

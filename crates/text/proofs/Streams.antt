@@ -191,12 +191,18 @@ module _ {A : Type 0} (event : A → Heard → A) where
       some : line.len ≡ 0 → ⊥
       some z = omega (arith, kept_empty (b ∷ s) (ap size_of (sym h.keeps ∙ ap (λ (n : ℕ). heard (record { room = line.room; len = n })) z)))
 
-  -- from an empty line to the end: the state is that of every line of the stream
-  pub whole : {line' : Line} {a b : A}
-      → (s : Streamed event no_line a b line') → finished event b line' ≡ ran event a (all_lines s.stream)
+  -- from a line of no bytes to the end, whatever its room holds: the state is that of every line of the stream
+  pub whole : {line line' : Line} {a b : A} → line.len ≡ 0 → length line.room ≡ kept_bytes
+      → (s : Streamed event line a b line') → finished event b line' ≡ ran event a (all_lines s.stream)
   unfolding all_lines
-  whole {line'} {a} {b} s =
-      let r = s.carries [] (record { keeps = empty_kept no_line.room; size = refl }) in
+  whole {line} {line'} {a} {b} none size s =
+      let keeps : heard line ≡ kept [] = ap (λ (n : ℕ). heard (record { room = line.room; len = n })) none ∙ empty_kept line.room in
+      let r = s.carries [] (record { keeps = keeps; size = size }) in
       last_one b (lines [] s.stream).since line' r.stands
       ∙ ap (λ (x : A). ran event x (unended (lines [] s.stream).since)) r.state
       ∙ sym (ran_append a (lines [] s.stream).done (unended (lines [] s.stream).since))
+
+  -- the same from a line of which nothing has come
+  pub whole_of : {line line' : Line} {a b : A} → line ≡ no_line
+      → (s : Streamed event line a b line') → finished event b line' ≡ ran event a (all_lines s.stream)
+  whole_of e = whole (ap (λ (l : Line). l.len) e) (ap (λ (l : Line). length l.room) e)

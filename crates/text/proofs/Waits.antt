@@ -3,6 +3,7 @@ use mathlib.Core.Path.{◌≡◌, refl, sym, ap, ◌∙◌}
 use mathlib.Core.Bool.{Bool, true, false, cond}
 use mathlib.Core.List.{List, [], ◌∷◌, ◌++◌, append_assoc}
 use Prim.Native.Nat.{ℕ, ◌+◌, ◌-◌, ◌≤◌, ◌<◌}
+use base.Fml.{GName}
 use native.Mathlib.Omega.{arith}
 use lib.Dec.{leb}
 use lib.ListN.{length, take, drop, length-append}
@@ -26,12 +27,13 @@ copied l s ys a e =
     let k : a + length s - a ≡ length s = omega arith in
     rw (e, k, drop-drop (length s) a l)
 
-pub put_is : (w : Waiting) (l s ys : List ℕ) (a : ℕ) → length s ≤ length w.bytes → l ≡ w.bytes → a ≡ place_for (length w.bytes) w.count (length s) → ys ≡ s
-    → record { count = a + length s; bytes = take a l ++ (ys ++ drop (a + length s - a) (drop a l)) } ≡ put_in w s
+pub put_is : (w : Waiting) (l s ys : List ℕ) (a : ℕ) (x : GName) → length s ≤ length w.bytes → l ≡ w.bytes
+    → a ≡ place_for (length w.bytes) w.count (length s) → x ≡ w.name → ys ≡ s
+    → record { count = a + length s; bytes = take a l ++ (ys ++ drop (a + length s - a) (drop a l)); name = x } ≡ put_in w s
 unfolding put_in
-put_is w l s ys a h k p e =
-    rw (le-leb (length s) (length w.bytes) h, ← p)
-    (ap (λ (r : List ℕ). record { count = a + length s; bytes = r }) (copied l s ys a e ∙ ap (λ (r : List ℕ). laid r a s) k))
+put_is w l s ys a x h k p q e =
+    rw (le-leb (length s) (length w.bytes) h, ← p, q)
+    (ap (λ (r : List ℕ). record { count = a + length s; bytes = r; name = w.name }) (copied l s ys a e ∙ ap (λ (r : List ℕ). laid r a s) k))
 
 -- pieces, and then further pieces
 pub puts_append : (w : Waiting) (a b : List (List ℕ)) → puts (puts w a) b ≡ puts w (a ++ b)

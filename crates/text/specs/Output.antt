@@ -1,18 +1,21 @@
 -- Bytes that wait in a buffer to be written.
-use Rattle.std.specs.Prelude.{ℕ, ◌+◌, cond, List, [], ◌∷◌, ◌++◌, length, take, drop, leb, replicate}
+use Rattle.std.specs.Prelude.{ℕ, ◌+◌, cond, List, [], ◌∷◌, ◌++◌, length, take, drop, leb}
+use base.Fml.{GName}
+use denote.MutBor.{MutBor}
 use Rattle.text.specs.declared.output.Out.{Out}
 
--- a buffer, of which so many bytes wait
+-- a buffer, of which so many bytes wait; its name says that it is still the one that was lent
 pub record Waiting : Type 0 where
   pub count : ℕ
   pub bytes : List ℕ
+  pub name : GName
 
 abbrev pub waiting : Out → Waiting
-waiting out = record { count = out.count; bytes = out.bytes }
+waiting out = record { count = out.pending.at; bytes = out.bytes.now; name = out.bytes.ghost_name }
 
--- where a program begins
-abbrev pub nothing_waits : Waiting
-nothing_waits = record { count = 0; bytes = replicate 65536 0 }
+-- where a program begins, with the buffer that it is lent
+abbrev pub nothing_waits : MutBor (List ℕ) → Waiting
+nothing_waits room = record { count = 0; bytes = room.now; name = room.ghost_name }
 
 -- where n bytes go in a buffer of a size: behind those that wait, or at the start, once these are written, where they have no room there
 abbrev pub place_for : ℕ → ℕ → ℕ → ℕ
@@ -29,6 +32,7 @@ put_in w s =
     (record {
       count = place_for (length w.bytes) w.count (length s) + length s;
       bytes = laid w.bytes (place_for (length w.bytes) w.count (length s)) s;
+      name = w.name;
     })
     w
 

@@ -11,14 +11,14 @@ ghost use Rattle.text.specs.Word.{word_end};
 
 // The most bytes of a line that are kept. The longest line that a program here can take, a configuration of `replay` with every number
 // at its widest, has 739.
-const KEPT: usize = 1024;
+pub const KEPT: usize = 1024;
 
 // A line that is being read. With a length of at most `KEPT` it is that many bytes of the room, and any greater length is the one state
-// "too long". So every pair of them means something, and no condition has to travel with it.
+// "too long". So every pair of them means something, no condition has to travel with it, and a caller may set both.
 #[derive(Drop)]
 pub struct Line {
-    room: [u8; KEPT],
-    len: usize,
+    pub room: [u8; KEPT],
+    pub len: usize,
 }
 
 // What feeding a block did: how many of its bytes it used, and whether the line ended there. The LF is used, and is no part of the line.
@@ -26,6 +26,19 @@ pub struct Line {
 pub struct Step {
     pub used: usize,
     pub ended: bool,
+}
+
+// One byte more of a line: its room keeps it while it has place for it. Answers the length.
+#[tactic(auto, unfolding(crate::specs::Line::with_byte))]
+fn keep(room: &mut [u8; KEPT], len: usize, b: u8) -> usize
+    ensures { record { room = room.new; len = result } ≡ with_byte (record { room = room.old; len = len }) b }
+{
+    if len < KEPT {
+        room[len] = b;
+        len + 1
+    } else {
+        KEPT + 1
+    }
 }
 
 impl Line {
@@ -39,34 +52,25 @@ impl Line {
         }
     }
 
-    // One byte more: it is kept while there is room.
-    #[tactic(auto, unfolding(crate::specs::Line::with_byte))]
-    fn push(&mut self, b: u8)
-        ensures { self.new ≡ with_byte self.old b }
-    {
-        if self.len < KEPT {
-            self.room[self.len] = b;
-            self.len += 1;
-        } else {
-            self.len = KEPT + 1;
-        }
-    }
-
-    // Reads s up to its first LF, or to its end, on to the line.
+    // Reads s up to its first LF, or to its end, on to the line. The length stands in a local until then: in its place each byte would wait
+    // for the one before it to be stored.
     pub fn feed(&mut self, s: &[u8]) -> Step
         ensures value { result ≡ (scan 0 s.now self.old).step }
         ensures line_after { self.new ≡ (scan 0 s.now self.old).line }
         ensures used { Used result.used (length s.now) }
     {
+        let mut len = self.len;
         for (i, b) in s.iter().enumerate() {
             if *b == b'\n' {
+                self.len = len;
                 return Step {
                     used: i + 1,
                     ended: true,
                 };
             }
-            self.push(*b);
+            len = keep(&mut self.room, len, *b);
         }
+        self.len = len;
         Step {
             used: s.len(),
             ended: false,
@@ -74,7 +78,7 @@ impl Line {
     }
 
     // The next line begins.
-    fn clear(&mut self)
+    pub fn clear(&mut self)
         ensures { self.new ≡ record { room = self.old.room; len = 0 } }
     {
         self.len = 0;

@@ -1,7 +1,7 @@
 // A program over standard input: it hears one line after another. Standard input is read in blocks, so the memory is the same for any
 // input.
-ghost use Rattle.std.specs.Prelude.{ℕ, ◌≤◌, ◌≡◌, List, Bool, length, take};
-ghost use Rattle.text.specs.Line.{Heard, heard, goes_on, all_lines, ran, Carried, Turned, Streamed, finished, no_line};
+ghost use Rattle.std.specs.Prelude.{◌≤◌, ◌≡◌, Bool, length, take};
+ghost use Rattle.text.specs.Line.{Heard, heard, goes_on, Carried, Turned, Streamed, finished};
 
 use crate::Line;
 use std::io::{Read, Stdin};
@@ -66,7 +66,7 @@ fn one_turn<H: Hears>(program: &mut H, line: &mut Line, input: &mut Stdin, block
 }
 
 // A last line that no LF ends counts, where it has a byte.
-fn end<H: Hears>(program: &mut H, line: &Line)
+pub fn end<H: Hears>(program: &mut H, line: &Line)
     ensures { H.standing program.new ≡ finished H.heard_by (H.standing program.old) line.now }
 {
     if line.len > 0 {
@@ -74,17 +74,16 @@ fn end<H: Hears>(program: &mut H, line: &Line)
     }
 }
 
-// The whole of standard input, whatever it is. A proved loop has to end, and nothing says that the input does. So the turns are counted, up
-// to a number that no run uses up: at a turn each nanosecond it would take more than five hundred years.
-pub fn hear_all<H: Hears>(program: &mut H, mut input: Stdin)
-    ensures { (stream : List ℕ) × (H.standing program.new ≡ ran H.heard_by (H.standing program.old) (all_lines stream)) }
+// The whole of standard input, whatever it is, but for a last line that no LF ends, which is left open. A proved loop has to end, and nothing
+// says that the input does. So the turns are counted, up to a number that no run uses up: at a turn each nanosecond it would take more than
+// five hundred years.
+pub fn run<H: Hears>(program: &mut H, line: &mut Line, mut input: Stdin)
+    ensures { Streamed H.heard_by line.old (H.standing program.old) (H.standing program.new) line.new }
 {
     let mut block = io::large_buffer();
-    let mut line = Line::new();
     for _ in 0..u64::MAX {
-        if !one_turn(program, &mut line, &mut input, &mut block) {
+        if !one_turn(program, line, &mut input, &mut block) {
             break;
         }
     }
-    end(program, &line);
 }

@@ -1,7 +1,8 @@
 -- No line has come yet, and nothing waits.
 use Rattle.std.proofs.Common.{◌∙◌, ap}
 use Rattle.text.specs.Line.{all_lines, ran}
-use Rattle.text.specs.Output.{Waiting, nothing_waits}
+use Rattle.text.specs.Output.{Waiting}
+use Rattle.text.proofs.Streams.{whole_of}
 use Rattle.rescaling.specs.declared.Mode.TheVariants.{Awaiting}
 use Rattle.rescale.specs.Rescale.{Stand, stand, heard_by}
 use Rattle.rescale.proofs.Stream.{prints}
@@ -9,6 +10,10 @@ use Rattle.rescale.proofs.rescaled.Goals as goal
 
 pub returns : goal.returns
 returns c =
-    let all = c.hear_all.ensures in
-    let lines = all_lines all.0 in
-    (all.0, ap (λ (x : Stand). x.out) (all.1 ∙ ap (λ (w : Waiting). ran heard_by (stand Awaiting w) lines) c.new.ensures.waits) ∙ prints nothing_waits lines)
+    let all = c.run.ensures in
+    let lines = all_lines all.stream in (
+      all.stream,
+      ap (λ (x : Stand). x.out)
+          (c.end.ensures ∙ whole_of heard_by c.new-line.ensures all ∙ ap (λ (w : Waiting). ran heard_by (stand Awaiting w) lines) c.new.ensures.waits)
+          ∙ prints _ lines,
+    )

@@ -4,18 +4,18 @@ use Rattle.text.specs.Line.{heard}
 use Rattle.text.specs.Output.{waiting, puts}
 use Rattle.rescaling.specs.Show.{shown_of}
 use Rattle.rescaling.specs.declared.Said.{Said}
-use Rattle.rescale.specs.Rescale.{stand, standing, opened_at}
+use Rattle.rescale.specs.Rescale.{stand, standing}
 use Rattle.rescale.proofs.Stream.{opened_stand, hears_later}
 use Rattle.rescale.proofs.ProgramHears.hear.Goals as goal
 
 pub returns-then-awaits : goal.returns-then-awaits
 returns-then-awaits c =
     let program = c.args.self.now in
-    ap (stand c.first-opened.result.mode) c.put_said.ensures ∙ ap (opened_at (waiting program.out)) c.first-opened.ensures
+    c.open.ensures
     ∙ opened_stand (standing program) (heard c.args.line.now) (sym c.awaits.ensures ∙ c.if-awaits.true)
 
 pub returns-else-awaits : goal.returns-else-awaits
 returns-else-awaits c =
     let program = c.args.self.now in
-    ap (stand program.mode) (c.put_said-else-awaits.ensures ∙ ap (λ (x : Said). puts (waiting program.out) (shown_of x)) c.told.ensures)
+    ap (stand program.mode) (c.put_said.ensures ∙ ap (λ (x : Said). puts (waiting program.out) (shown_of x)) c.told.ensures)
     ∙ hears_later (standing program) (heard c.args.line.now) (sym c.awaits.ensures ∙ c.if-awaits.false)

@@ -1,6 +1,6 @@
 -- Each turn reads on in the stream.
 use Rattle.text.specs.Line.{Streamed}
-use Rattle.text.proofs.stream.hear_all.Given as goal
+use Rattle.text.proofs.stream.run.Given as goal
 
 abbrev pub invariant-loop : goal.invariant-loop
 invariant-loop g l =
