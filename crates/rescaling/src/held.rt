@@ -9,9 +9,9 @@ use std::marker::Model;
 
 // What reading asks of a scale holds of the one that is held. So no call asks for it, and a line is told its reading by the scale where it
 // stands: no line copies it.
-#[derive(Drop)]
+#[derive(Clone, Copy)]
 pub struct Held {
-    scale: Segments,
+    pub scale: Segments,
 }
 
 impl Model for Held {
@@ -19,11 +19,14 @@ impl Model for Held {
 
     ghost view = { λ held. held.scale };
 
+    ghost inverse = { λ scale. record { scale = scale } };
+
     ghost invariant = { λ held. can_scale held.scale ≡ true };
 }
 
 impl Held {
-    pub(crate) fn new(scale: Segments) -> Held
+    // A scale that passes the test is held.
+    pub fn new(scale: Segments) -> Held
         requires { can_scale scale ≡ true }
         ensures { result ≡ scale }
     {

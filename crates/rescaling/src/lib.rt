@@ -21,7 +21,7 @@ use text::Line;
 use text::output::Out;
 
 // What the first line has made of the program: none has come yet, a scale is held, a configuration was refused, or there was none.
-#[derive(Drop)]
+#[derive(Clone, Copy)]
 pub enum Mode {
     Awaiting,
     Scaled(Held),
@@ -40,7 +40,7 @@ pub enum Said {
 }
 
 // What the first line did.
-#[derive(Drop)]
+#[derive(Clone, Copy)]
 pub struct Opened {
     pub mode: Mode,
     pub said: Said,
