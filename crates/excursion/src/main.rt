@@ -4,7 +4,8 @@
 // so that its theorem `OffDelay.always` speaks of these rows.
 #![tactic(auto)]
 
-ghost use Rattle.std.specs.Prelude.{◌≡◌, Bool, [], ◌∷◌, ℕ, pos};
+ghost use Rattle.std.specs.Prelude.{◌≡◌, refl, Bool, [], ◌∷◌, ℕ, pos};
+ghost use Rattle.alarms.specs.Alarms.{alarm_at};
 ghost use Rattle.reading.specs.declared.Reading.TheVariants.{Number};
 ghost use Rattle.instrument.specs.Instrument.{read};
 ghost use Rattle.looking.specs.History.{History, sample, byte, meter_after};
@@ -47,9 +48,11 @@ fn bench_config() -> Config
 // ---- what the example is carried out on: this core's meter, or the old core's alarm
 
 // `after` is what a history leaves, so that where a value is the one that a history leaves, the longer history leaves what comes back.
-// `lit` is whether the first alarm is on after the example.
+// `on` is whether the first alarm is on, and `lit` whether it is after the example.
 trait Core: Copy {
     ghost after: { History → Self };
+
+    ghost on: { Self → Bool };
 
     ghost lit: { ℕ → ℕ → Bool };
 
@@ -68,14 +71,20 @@ trait Core: Copy {
 
     // Whether the first alarm is on.
     fn is_lit(self) -> bool
-        ensures { (n k : ℕ) → self ≡ after (excursion n k) → result ≡ lit n k };
+        ensures { result ≡ on self };
+
+    ghost lit_is: { (n k : ℕ) → on (after (excursion n k)) ≡ lit n k };
 }
 
 // This core, by its public calls.
 impl Core for Meter {
     ghost after = { meter_after bench };
 
+    ghost on = { λ m. (alarm_at m.instrument.alarms 0).on };
+
     ghost lit = { lit };
+
+    ghost lit_is = { λ n k. refl };
 
     fn started() -> Meter {
         Meter::power_up(bench_config()).meter
@@ -99,7 +108,11 @@ impl Core for Meter {
 impl Core for Alarm {
     ghost after = { old_alarm };
 
+    ghost on = { λ a. a.on };
+
     ghost lit = { old_lit };
+
+    ghost lit_is = { λ n k. refl };
 
     fn started() -> Alarm {
         alarm::off(100)
