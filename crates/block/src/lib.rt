@@ -80,6 +80,16 @@ fn any(print: Print) -> bool
     print.input || print.total || print.extremes || print.setpoints
 }
 
+// The line of a register of the order, over the front of a tail that has room for it.
+fn put_value(buf: &mut [u8], style: Style, register: usize, values: &Values)
+    requires { Printable style values.now × (register ≤ at "H") × (line_length style ≤ length buf.old) }
+    ensures { buf.new ≡ over buf.old (value_line style values.now register) }
+{
+    let places = values.places_of(register);
+    let shown = values.shown(register);
+    line::put_line(buf, style, register, places, shown);
+}
+
 // A block, over the front of a tail that has room for it: the chosen lines, each behind the one before it, and the end.
 fn put_block(buf: &mut [u8], style: Style, print: Print, values: &Values)
     requires { Printable style values.now × (length (block print (value_line style values.now)) ≤ length buf.old) }
@@ -88,9 +98,7 @@ fn put_block(buf: &mut [u8], style: Style, print: Print, values: &Values)
     let mut at = 0;
     for register in ORDER {
         if is_chosen(print, register) {
-            let places = values.places_of(register);
-            let shown = values.shown(register);
-            line::put_line(&mut buf[at..], style, register, places, shown);
+            put_value(&mut buf[at..], style, register, values);
             at += line::line_length(style);
         }
     }
@@ -124,5 +132,6 @@ pub fn write_block(
     let bytes = block_length(style, print);
     line::write_whole(buf, place, bytes, |tail| {
         put_block(tail, style, print, &values)
-    })
+    })?;
+    Some(bytes)
 }

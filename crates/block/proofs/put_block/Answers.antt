@@ -2,8 +2,8 @@
 use Rattle.std.proofs.Common.{◌≡◌, refl, sym, ap, ◌∙◌, true, false, ℕ, ◌<◌, length, get_or, append-nil, arith}
 use Rattle.line.proofs.Over.{room_next, put_next, tail_length, tail_back, laid_front, laid_nil}
 use Rattle.block.specs.Block.{wants, option_at, order, chosen, chosen_lines, some, block_end, block}
-use Rattle.block.specs.Values.{value_at, places_of, value_line}
-use Rattle.block.proofs.Blocks.{ordered, at_its_place, one_more, fits_one_more, value_writable, value_length}
+use Rattle.block.specs.Values.{value_line}
+use Rattle.block.proofs.Blocks.{ordered, at_its_place, one_more, fits_one_more, value_length}
 use Rattle.block.proofs.put_block.Goals as goal
 use Rattle.block.proofs.put_block.Goals.{then-is_chosen, else-is_chosen}
 
@@ -11,27 +11,23 @@ pub loop-register-init : goal.loop-register-init
 unfolding chosen_lines
 loop-register-init c = record { room = omega arith; next = refl; bytes = sym (laid_nil c.args.buf.now 0) }
 
-pub put_line-requires : goal.put_line-requires
-unfolding value_line
-put_line-requires c =
+pub put_value-requires : goal.put_value-requires
+put_value-requires c =
     let a = c.args in
     let v = a.values.now in
     let l = c.loop-register in
     let i = l.register-index in
     let h : i < 8 = omega arith in
     let e : get_or ordered i 0 ≡ i = at_its_place i h in
-    let places : c.places_of-places.result ≡ places_of v i = c.places_of-places.ensures ∙ ap (places_of v) e in
-    let shown : c.shown-shown.result ≡ value_at v i = c.shown-shown.ensures ∙ ap (value_at v) e in
     let wanted : wants a.print (option_at i) ≡ true = sym (ap (λ (r : ℕ). wants a.print (option_at r)) e) ∙ sym c.is_chosen.ensures ∙ c.if-is_chosen.true in
     let room =
     rw wanted at
     (room_next a.buf.now _ (chosen (wants a.print (option_at i)) (value_line a.style v i)) _ 0 _ l.invariant
     (fits_one_more a.print (value_line a.style v) i (length a.buf.now) h c.requires.1)) in
-    rw (e, places, shown, tail_length l.buf l.at)
-    (value_writable a.style v c.requires.0 i (omega arith), omega (arith, room, value_length a.style v c.requires.0 i (omega arith)))
+    rw (e, tail_length l.buf l.at)
+    (c.requires.0, omega arith, omega (arith, room, value_length a.style v c.requires.0 i (omega arith)))
 
 pub loop-register-preserved : goal.loop-register-preserved
-unfolding value_line
 loop-register-preserved c =
     let a = c.args in
     let v = a.values.now in
@@ -46,11 +42,9 @@ loop-register-preserved c =
     (elim c.if-is_chosen.branch [
       | then-is_chosen w ↦
           let wanted : wants a.print (option_at i) ≡ true = asked ∙ w.if-is_chosen.true in
-          let places : w.places_of-places.result ≡ places_of v i = w.places_of-places.ensures ∙ ap (places_of v) e in
-          let shown : w.shown-shown.result ≡ value_at v i = w.shown-shown.ensures ∙ ap (value_at v) e in
           put_next a.buf.now _ u l.buf _ 0 l.at _ l.invariant fits
           (w.at-is ∙ rw (wanted, w.line_length-at.ensures, value_length a.style v c.requires.0 i (omega arith)))
-          (w.buf-is ∙ rw wanted (tail_back l.buf (value_line a.style v i) _ l.at (w.put_line.ensures ∙ rw (e, places, shown))))
+          (w.buf-is ∙ rw wanted (tail_back l.buf (value_line a.style v i) _ l.at (w.put_value.ensures ∙ rw e)))
       | else-is_chosen w ↦
           let wanted : wants a.print (option_at i) ≡ false = asked ∙ w.if-is_chosen.false in
           rw (wanted, append-nil, w.at-is, w.buf-is) l.invariant
