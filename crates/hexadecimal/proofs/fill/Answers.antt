@@ -1,5 +1,5 @@
 -- `hexadecimal::fill` meets its contract: after n pairs the array has the first n bytes. Assumes nothing.
-use Rattle.std.proofs.Common.{◌≡◌, true, List, [], ◌∷◌, ◌++◌, ℕ, zero, suc, ◌+◌, ◌*◌, ◌≤◌, ◌<◌, length, take, drop, get_or, ◌∙◌, refl, sym, ap, arith, rules}
+use Rattle.std.proofs.Common.{◌≡◌, true, List, [], ◌∷◌, ◌++◌, ℕ, zero, suc, ◌+◌, ◌*◌, ◌≤◌, ◌<◌, length, take, drop, get_or, take_all, ◌∙◌, refl, sym, ap, arith, rules}
 use Rattle.std.proofs.lemmas.List.{get_or-drop, length-drop}
 use Rattle.std.specs.Iterator.Adapters.{enumerate_source, enumerate_count}
 use Rattle.std.specs.Slice.Iter.{chunks_exact_rest}
@@ -49,7 +49,7 @@ worth s i e h k = below_16 (get_or s i 0) (digits s i e h k)
 pub loop-n-init : goal.loop-n-init
 loop-n-init c =
     let none : enumerate_count c.into_iter-n-iterator.result ≡ 0 = search rules in
-    let rest : chunks_exact_rest (enumerate_source c.into_iter-n-iterator.result) ≡ c.args.text.now = search rules in
+    let rest : chunks_exact_rest (enumerate_source c.into_iter-n-iterator.result) ≡ c.args.text.now = search (rules, take_all) in
     (search rules, rw none rest, omega (arith, none), over_none c.args.bytes.now (bytes_of c.args.text.now) (enumerate_count c.into_iter-n-iterator.result) none)
 
 pub digit-high-requires : goal.digit-high-requires
@@ -119,7 +119,7 @@ loop-n-preserved c =
     )
 
 pub returns-clause-value : goal.returns-clause-value
-returns-clause-value c = sym (bytes_count c.args.text.now)
+returns-clause-value c = omega (arith, bytes_count c.args.text.now)
 
 pub returns-clause-bytes_after : goal.returns-clause-bytes_after
 returns-clause-bytes_after c =
