@@ -52,8 +52,8 @@ impl Line {
         }
     }
 
-    // Reads s up to its first LF, or to its end, on to the line. The length stands in a local until then: in its place each byte would wait
-    // for the one before it to be stored.
+    // Reads s up to its first LF, or to its end, on to the line. The length is counted in a local: stored in the struct at each byte, it would
+    // have each byte wait for the one before it.
     pub fn feed(&mut self, s: &[u8]) -> Step
         ensures value { result ≡ (scan 0 s.now self.old).step }
         ensures line_after { self.new ≡ (scan 0 s.now self.old).line }
