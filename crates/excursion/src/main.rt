@@ -48,7 +48,7 @@ fn bench_config() -> Config
 // ---- what the example is carried out on: this core's meter, or the old core's alarm
 
 // `after` is what a history leaves, so that where a value is the one that a history leaves, the longer history leaves what comes back.
-// `on` is whether the first alarm is on, and `lit` whether it is after the example.
+// `on` is whether the first alarm is on, and `lit` whether it is after the example; `lit_is` ties the two.
 trait Core: Copy {
     ghost after: { History → Self };
 
